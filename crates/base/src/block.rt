@@ -48,7 +48,8 @@ impl Address {
     pub fn number(self) -> u16
         ensures { λ r. ⌜ r ≡ self .0 ⌝ }
     {
-        self.0
+        let Address(word) = self;
+        word
     }
 
     pub fn block(self) -> VirtualBlock
@@ -76,7 +77,8 @@ impl VirtualBlock {
     pub fn number(self) -> u16
         ensures { λ r. ⌜ r ≡ self .0 ⌝ }
     {
-        self.0
+        let VirtualBlock(block) = self;
+        block
     }
 
     pub fn page(self) -> Page
@@ -103,6 +105,7 @@ impl PhysicalBlock {
     pub fn number(self) -> u16
         ensures { λ r. ⌜ r ≡ self .0 ⌝ }
     {
-        self.0
+        let PhysicalBlock(block) = self;
+        block
     }
 }

@@ -1,0 +1,4 @@
+pub mod Sizes
+pub mod Asked
+pub mod Recent
+pub mod Around
