@@ -28,6 +28,12 @@ pub struct TranslationBuffer<M> {
     places: [Place; PLACES],
 }
 
+fn empty_places() -> [Place; PLACES]
+    ensures { λ r. ⌜ r ≡ replicate placeCount Empty ⌝ }
+{
+    [Place::Empty; PLACES]
+}
+
 impl<M: Map> TranslationBuffer<M> {
     // A buffer with empty places.
     pub fn new(below: M) -> TranslationBuffer<M>
@@ -37,7 +43,7 @@ impl<M: Map> TranslationBuffer<M> {
     {
         TranslationBuffer {
             below,
-            places: [Place::Empty; PLACES],
+            places: empty_places(),
         }
     }
 

@@ -1,4 +1,7 @@
 ghost use mathlib.Core.Path.{_≡_};
+ghost use lib.ListN.{replicate};
+ghost use Prim.Native.Nat.{_*_};
+ghost use Rattle.base.specs.Sizes.{pages, processes};
 ghost use Rattle.std.specs.declared.option.Option.{Option};
 ghost use Rattle.std.specs.declared.option.Option.the-variants.{Some, None};
 ghost use Rattle.paging.specs.Frames.{Small, flat, slotOf, unmapped};
@@ -20,6 +23,12 @@ pub struct FlatTable {
     entries: [Option<Frame>; ENTRIES],
 }
 
+fn no_entries() -> [Option<Frame>; ENTRIES]
+    ensures { λ r. ⌜ r ≡ replicate (processes * pages) None ⌝ }
+{
+    [None; ENTRIES]
+}
+
 impl FlatTable {
     // No page has a frame.
     pub fn new() -> FlatTable
@@ -27,7 +36,7 @@ impl FlatTable {
         ensures frames { λ r. ⌜ flat (r .entries) ≡ unmapped ⌝ }
     {
         FlatTable {
-            entries: [None; ENTRIES],
+            entries: no_entries(),
         }
     }
 }

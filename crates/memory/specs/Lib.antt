@@ -1,0 +1,4 @@
+pub mod Fault
+pub mod Words
+pub mod Slices
+pub mod Halves

@@ -1,0 +1,5 @@
+pub mod Faults
+pub mod Records
+pub mod Bytes
+pub mod Traces
+pub mod Read

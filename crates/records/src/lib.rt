@@ -1,0 +1,5 @@
+pub mod decode;
+pub mod fault;
+pub mod record;
+pub mod trace;
+pub mod words;

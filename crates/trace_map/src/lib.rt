@@ -1,0 +1,3 @@
+pub mod pages;
+pub mod play;
+pub mod trace;
