@@ -126,3 +126,32 @@ fn main(rt: LibcRuntime) -> io::Result<()> {
         }
     }
 }
+
+#[cfg(test)]
+mod tests {
+    use super::*;
+    use std::test::*;
+
+    #[test]
+    fn empty_input_prints_an_empty_map(rt: LibcRuntime) -> Result<(), Fail> {
+        match report(rt.alloc(), &[]) {
+            Ok(text) => check(
+                text.as_str()
+                    == "process  page  frame\n\nframe  shared by process:page\n\nrecords 0, enters 0, erases 0, pages 0\n",
+            ),
+            Err(_) => Err(Fail::new("refused")),
+        }
+    }
+
+    #[test]
+    fn fault_is_told_with_record_and_number(rt: LibcRuntime) -> Result<(), Fail> {
+        let bytes = [0x40, 0x00, 0x00, 0x05, 0x80, 0x00, 0x00, 0x00];
+        match report(rt.alloc(), &bytes) {
+            Ok(_) => Err(Fail::new("taken")),
+            Err(failure) => {
+                let text = failure.to_string(rt.alloc())?;
+                check(text.as_str() == "record 1, number 16: no kind of record has this number")
+            }
+        }
+    }
+}
