@@ -109,7 +109,7 @@ fn check_case(
 #[test]
 fn words_as_memory() -> Result<(), Fail> {
     let words: &mut [u32] = &mut [0; LENGTH];
-    let cases = [
+    const CASES: [(usize, u16, u16, Option<Words>); 11] = [
         (0, 0, 0, None),
         (1, 0, 0, None),
         (7, 1, 0, Some([100, 101, 102, 103])),
@@ -122,12 +122,21 @@ fn words_as_memory() -> Result<(), Fail> {
         (LENGTH, 512, 512, None),
         (LENGTH, 512, 65_535, None),
     ];
-    for (length, count, number, old) in cases {
+    for (length, count, number, old) in CASES {
         check_case(words, length, count, number, old).note(format_args!(
             "block {number} of {length} words"
         ))?;
     }
     Ok(())
+}
+
+fn check_pair<A: Memory + Drop, B: Memory + Drop>(
+    even: A,
+    odd: B,
+    count: u16,
+    blocks: &[(u16, Words)],
+) -> Result<(), Fail> {
+    check_blocks(&mut Pair::new(even, odd), count, blocks)
 }
 
 fn check_all(words: &[u32], expected: &[u32]) -> Result<(), Fail> {
@@ -160,12 +169,12 @@ fn pair_of_pairs() -> Result<(), Fail> {
     let first = Pair::new(WordMemory::new(a), WordMemory::new(b));
     let second = Pair::new(WordMemory::new(c), WordMemory::new(d));
     let blocks = [(0, [0; 4]), (1, [2; 4]), (2, [1; 4]), (3, [3; 4])];
-    check_blocks(&mut Pair::new(first, second), 4, &blocks)
+    check_pair(first, second, 4, &blocks)
 }
 
 #[test]
 fn pair_has_most_blocks() -> Result<(), Fail> {
     let (even, odd) = (&mut [0; 2048], &mut [1; 2048]);
-    let mut pair = Pair::new(WordMemory::new(even), WordMemory::new(odd));
-    check_blocks(&mut pair, 512, &[(510, [0; 4]), (511, [1; 4])])
+    let blocks = [(510, [0; 4]), (511, [1; 4])];
+    check_pair(WordMemory::new(even), WordMemory::new(odd), 512, &blocks)
 }

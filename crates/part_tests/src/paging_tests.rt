@@ -49,6 +49,11 @@ fn check_frame<M: Map>(map: &mut M, process: u8, page: u16, frame: Option<u8>) -
     }
 }
 
+fn check_look_up<M: Map>(map: &mut M, process: u8, block: u16, physical: u16) -> Result<(), Fail> {
+    let answer = map.look_up(Process(process), VirtualBlock::new(block));
+    check_eq(answer, Ok(PhysicalBlock::new(physical)))
+}
+
 fn check_change<M: ChangeableMap>(
     map: &mut M,
     process: u8,
@@ -62,6 +67,20 @@ fn check_change<M: ChangeableMap>(
     check_eq(answer, Ok(()))
 }
 
+type Change = (u8, u16, Option<u8>, [Option<u8>; 3]);
+
+// The process, page and new frame of each change, and the frames of three pages after it.
+const CHANGES: [Change; 8] = [
+    (2, 5, Some(40), [Some(40), None, None]),
+    (2, 21, Some(41), [Some(40), Some(41), None]),
+    (3, 5, Some(0), [Some(40), Some(41), Some(0)]),
+    (2, 5, Some(43), [Some(43), Some(41), Some(0)]),
+    (2, 21, None, [Some(43), None, Some(0)]),
+    (2, 5, None, [None, None, Some(0)]),
+    (2, 5, Some(62), [Some(62), None, Some(0)]),
+    (3, 5, None, [Some(62), None, None]),
+];
+
 // Three pages that have one place in a buffer. Each is looked up twice, and the first again at the
 // end, so that a buffer holds it when the next change is made.
 fn check_frames<M: Map>(map: &mut M, frames: [Option<u8>; 3]) -> Result<(), Fail> {
@@ -73,24 +92,14 @@ fn check_frames<M: Map>(map: &mut M, frames: [Option<u8>; 3]) -> Result<(), Fail
     Ok(())
 }
 
-// Changes of a map that has no entries, with the frames of the three pages after each.
+// The changes of a map that has no entries yet.
 fn check_changes<M: ChangeableMap>(map: &mut M) -> Result<(), Fail> {
     check_frames(map, [None, None, None])?;
-    let changes = [
-        (2, 5, Some(40), [Some(40), None, None]),
-        (2, 21, Some(41), [Some(40), Some(41), None]),
-        (3, 5, Some(0), [Some(40), Some(41), Some(0)]),
-        (2, 5, Some(43), [Some(43), Some(41), Some(0)]),
-        (2, 21, None, [Some(43), None, Some(0)]),
-        (2, 5, None, [None, None, Some(0)]),
-        (2, 5, Some(62), [Some(62), None, Some(0)]),
-        (3, 5, None, [Some(62), None, None]),
-    ];
-    for (process, page, to, frames) in changes {
+    for (process, page, to, frames) in CHANGES {
         check_change(map, process, page, to)?;
         check_frames(map, frames).note(format_args!("change of {process}, {page}"))?;
     }
-    Ok(())
+    check_look_up(map, 2, 47, 503)
 }
 
 fn check_refused<M: ChangeableMap>(map: &mut M, process: u8, page: u16) -> Result<(), Fail> {
@@ -140,8 +149,7 @@ fn straight_map() -> Result<(), Fail> {
             page,
         )?;
     }
-    let block = map.look_up(Process(1), VirtualBlock::new(9));
-    check_eq(block, Ok(PhysicalBlock::new(73)))?;
+    check_look_up(&mut map, 1, 9, 73)?;
     check_fault(
         map.look_up(Process(0), VirtualBlock::new(512)),
         OUT_OF_RANGE,
@@ -166,7 +174,5 @@ fn buffer_over_buffer() -> Result<(), Fail> {
     let mut map = TranslationBuffer::new(TranslationBuffer::new(FlatTable::new()));
     check_changes(&mut map)?;
     let mut below = map.into_below();
-    check_frames(&mut below, [Some(62), None, None])?;
-    let block = below.look_up(Process(2), VirtualBlock::new(47));
-    check_eq(block, Ok(PhysicalBlock::new(503)))
+    check_frames(&mut below, [Some(62), None, None])
 }
