@@ -1,0 +1,14 @@
+pub mod Sizes
+pub mod Basic
+pub mod Rule
+pub mod Cache
+pub mod Bus
+pub mod Calls
+pub mod Run
+pub mod History
+pub mod Laws
+pub mod Listing
+pub mod Example
+pub mod Exhibit
+pub mod Invariant
+pub mod Sound
