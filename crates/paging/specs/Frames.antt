@@ -40,13 +40,20 @@ abbrev pub looked : Frames → Process → Page → Result Frame MapFault
 looked m p g = cond (named (p .0) (g .0)) (found (m (p .0) (g .0)) g) (Err (OutOfRange g))
 
 -- the block of a frame that stands where a virtual block stands in its page
+abbrev pub blockIn : ℕ → ℕ → PhysicalBlock
+blockIn f v = record { 0 = f * pageBlocks + inPage v }
+
 abbrev pub inFrame : VirtualBlock → Result Frame MapFault → Result PhysicalBlock MapFault
-inFrame v (Ok f) = Ok (record { 0 = f .0 * pageBlocks + inPage (v .0) })
+inFrame v (Ok f) = Ok (blockIn (f .0) (v .0))
 inFrame v (Err e) = Err e
+
+-- the page of a virtual block
+abbrev pub pageWith : VirtualBlock → Page
+pageWith v = record { 0 = pageOf (v .0) }
 
 -- what the look-up of a virtual block answers
 abbrev pub translated : Frames → Process → VirtualBlock → Result PhysicalBlock MapFault
-translated m p v = inFrame v (looked m p (record { 0 = pageOf (v .0) }))
+translated m p v = inFrame v (looked m p (pageWith v))
 
 -- no page has a frame
 abbrev pub unmapped : Frames

@@ -4,12 +4,13 @@ ghost use lib.ListN.{getD, set, replicate};
 ghost use Prim.Native.Nat.{ℕ};
 ghost use Rattle.std.specs.Options.{isSome};
 ghost use Rattle.std.specs.declared.option.Option.the-variants.{Some, None};
-ghost use Rattle.paging.specs.Frames.{changed, changing, enters, looked, named};
+ghost use Rattle.paging.specs.Frames.{changed, changing, enters, looked, named, pageWith, translated};
 ghost use Rattle.paging.specs.Places.{Agree, afterChange, afterLook, given, kept as keptIn, placeOf, places as placeCount};
 ghost use Rattle.paging.specs.declared.place.Place.the-variants.{Empty};
 use crate::fault::MapFault;
 use crate::map::ChangeableMap;
 use crate::map::Map;
+use crate::map::block_in;
 use crate::place::Place;
 use crate::straight::StraightMap;
 use crate::straight::StraightMapMap;
@@ -17,7 +18,9 @@ use crate::table::FlatTable;
 use crate::table::FlatTableMap;
 use base::block::Frame;
 use base::block::Page;
+use base::block::PhysicalBlock;
 use base::block::Process;
+use base::block::VirtualBlock;
 
 const PLACES: usize = 16;
 
@@ -108,6 +111,18 @@ pub impl<M: Map> Map for TranslationBuffer<M> as BufferMap {
             },
         );
         Ok(frame)
+    }
+
+    // Besides what the trait says: the places, and that the map below is untouched where a place gives the frame.
+    fn look_up(&mut self, process: Process, block: VirtualBlock) -> Result<PhysicalBlock, MapFault>
+        ensures kept { λ _. ⌜ (M·Map .sound (now (self .entry) .below) × Agree (M·Map .frame (now (self .entry) .below)) (now (self .entry) .places) → M·Map .sound (now (self .exit) .below) × Agree (M·Map .frame (now (self .exit) .below)) (now (self .exit) .places)) ⌝ }
+        ensures answer { λ r. ⌜ (M·Map .sound (now (self .entry) .below) × Agree (M·Map .frame (now (self .entry) .below)) (now (self .entry) .places) → r ≡ translated (M·Map .frame (now (self .entry) .below)) process block) ⌝ }
+        ensures frames { λ _. ⌜ (M·Map .sound (now (self .entry) .below) × Agree (M·Map .frame (now (self .entry) .below)) (now (self .entry) .places) → M·Map .frame (now (self .exit) .below) ≡ M·Map .frame (now (self .entry) .below)) ⌝ }
+        ensures places { λ _. ⌜ (M·Map .sound (now (self .entry) .below) × Agree (M·Map .frame (now (self .entry) .below)) (now (self .entry) .places) → now (self .exit) .places ≡ afterLook (keptIn (now (self .entry) .places) process (pageWith block)) (now (self .entry) .places) process (pageWith block) (looked (M·Map .frame (now (self .entry) .below)) process (pageWith block))) ⌝ }
+        ensures untouched { λ _. ⌜ (isSome (keptIn (now (self .entry) .places) process (pageWith block)) ≡ true → now (self .exit) .below ≡ now (self .entry) .below) ⌝ }
+    {
+        let frame = self.frame_of(process, block.page())?;
+        Ok(block_in(frame, block))
     }
 }
 

@@ -3,7 +3,7 @@ ghost use mathlib.Core.Bool.{Bool, true};
 ghost use Prim.Native.Nat.{ℕ, _+_, _*_, _%_, _<_};
 ghost use Rattle.std.specs.declared.option.Option.{Option};
 ghost use Rattle.std.specs.declared.option.Option.the-variants.{Some, None};
-ghost use Rattle.paging.specs.Frames.{Within, changed, changing, enters, looked, named, translated};
+ghost use Rattle.paging.specs.Frames.{Within, blockIn, changed, changing, enters, looked, named, translated};
 use crate::fault::MapFault;
 use base::block::Frame;
 use base::block::Page;
@@ -28,15 +28,22 @@ pub trait Map {
         ensures answer { λ r. ⌜ (sound (now (self .entry)) → r ≡ looked (frame (now (self .entry))) process page) ⌝ }
         ensures frames { λ _. ⌜ (sound (now (self .entry)) → frame (now (self .exit)) ≡ frame (now (self .entry))) ⌝ };
 
-    // The physical block of a virtual one: the only way from one to the other.
+    // The physical block of a virtual one.
     fn look_up(&mut self, process: Process, block: VirtualBlock) -> Result<PhysicalBlock, MapFault>
         ensures kept { λ _. ⌜ (sound (now (self .entry)) → sound (now (self .exit))) ⌝ }
         ensures answer { λ r. ⌜ (sound (now (self .entry)) → r ≡ translated (frame (now (self .entry))) process block) ⌝ }
         ensures frames { λ _. ⌜ (sound (now (self .entry)) → frame (now (self .exit)) ≡ frame (now (self .entry))) ⌝ }
     {
         let frame = self.frame_of(process, block.page())?;
-        Ok(PhysicalBlock::new(u16::from(frame.0) * PAGE_BLOCKS + block.in_page()))
+        Ok(block_in(frame, block))
     }
+}
+
+// The block of a frame that stands where a virtual block stands in its page: the only way from one to the other.
+pub(crate) fn block_in(frame: Frame, block: VirtualBlock) -> PhysicalBlock
+    ensures { λ r. ⌜ r ≡ blockIn (frame .0) (block .0) ⌝ }
+{
+    PhysicalBlock::new(u16::from(frame.0) * PAGE_BLOCKS + block.in_page())
 }
 
 // A map whose entries can be changed.
