@@ -24,11 +24,19 @@ const SHARERS_A_LINE: usize = 15;
 enum Failure {
     Trace(TraceError),
     NoMemory,
+    // Standard input or output failed.
+    Stream(io::Error),
 }
 
 impl From<TraceError> for Failure as FailureFromTrace {
     fn from(e: TraceError) -> Failure {
         Failure::Trace(e)
+    }
+}
+
+impl From<io::Error> for Failure as FailureFromIo {
+    fn from(e: io::Error) -> Failure {
+        Failure::Stream(e)
     }
 }
 
@@ -50,6 +58,7 @@ impl fmt::Display for Failure as FailureDisplay {
         match self {
             Failure::Trace(error) => write!(f, "{error}"),
             Failure::NoMemory => write!(f, "no memory for the report"),
+            Failure::Stream(error) => write!(f, "standard input or output: {error}"),
         }
     }
 }
@@ -114,15 +123,22 @@ fn report(heap: Global, bytes: &[u8]) -> Result<String, Failure> {
 }
 
 // Reads the trace, and prints its map.
-fn main(rt: LibcRuntime) -> io::Result<()> {
+fn run(rt: &LibcRuntime) -> Result<(), Failure> {
     let mut input = Vec::new(rt.alloc());
     let limit = TRACE_BYTES as u64 + 1;
     rt.stdin().take(limit).read_to_end(&mut input)?;
-    match report(rt.alloc(), &input) {
-        Ok(text) => rt.stdout().write_all(text.as_bytes()),
-        Err(error) => {
-            eprintln!(rt, "vrmap: {error}")?;
-            Err(io::Error::other("refused"))
+    let text = report(rt.alloc(), &input)?;
+    rt.stdout().write_all(text.as_bytes())?;
+    Ok(())
+}
+
+// A failure is told on standard error, and ends the program with status 1.
+fn main(rt: LibcRuntime) -> Result<(), Failure> {
+    match run(&rt) {
+        Ok(()) => Ok(()),
+        Err(failure) => {
+            let _ = eprintln!(rt, "vrmap: {failure}");
+            Err(failure)
         }
     }
 }
