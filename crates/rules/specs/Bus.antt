@@ -1,4 +1,4 @@
--- The bus: message words, and what the other processors do at a message.
+-- The bus: messages, and what the other processors do where they see one.
 use mathlib.Core.List.{List, [], _∷_}
 use mathlib.Core.Bool.{Bool, true, false, _||_}
 use Prim.Native.Nat.{ℕ, zero, suc, _+_, _*_, _%_, _^_}
@@ -78,7 +78,7 @@ current p e = childWords p (e .child) (e .words)
 abbrev pub supplied : Processor → REntry → REntry
 supplied p e = record { state = Shared; block = e .block; words = current p e; rdirty = false; child = cleanChild (e .child) }
 
--- kinds 1 and 5 at one processor: what it answers, and what becomes of it
+-- a read-miss or a device read at one processor: what it answers, and what becomes of it
 abbrev pub seenHeld : Bool → Processor → REntry → Snoop
 seenHeld true p e = Supplied (current p e)
 seenHeld false p e = Held
@@ -112,12 +112,13 @@ readSkip false b i q =
     let p = procAt (q .procs) i in
     notedBy (seenBy (rFind p b) b p) b i (set (q .procs) i (sharedBy (rFind p b) b p)) q
 
--- kinds 1 and 5, seen by the processors below n but for the sender
+-- a read-miss or a device read, seen by the processors below n in rising order, but for the sender: their records, the
+-- memory, the supplier so far, and whether one acknowledged
 abbrev pub readPass : ℕ → ℕ → ℕ → Passed → Passed
 readPass zero sender b q = q
 readPass (suc i) sender b q = readSkip (eqb i sender) b i (readPass i sender b q)
 
--- kind 2 at one processor
+-- an invalidation at one processor: its entry of the block becomes absent and the child empty, counted as invalidated
 abbrev pub takeBy : Option ℕ → ℕ → Processor → Processor
 takeBy None b p = p
 takeBy (Some w) b p = withCounts (putEntry (emptyAt p (entryAt p (b % rSets) w .child)) (b % rSets) w noEntry) (countInvalidated (p .counts))

@@ -94,16 +94,18 @@ withRrule p ws = record { v = p .v; r = p .r; vrule = p .vrule; rrule = ws; proc
 abbrev pub withCounts : Processor → Counts → Processor
 withCounts p c = record { v = p .v; r = p .r; vrule = p .vrule; rrule = p .rrule; process = p .process; counts = c }
 
--- a hit in a V-set: a valid line with the tag
+-- a valid line with the tag hits; a swapped one does not
 abbrev pub hits : ℕ → VLine → Bool
 hits t l = both (isValid (l .state)) (eqb (l .tag .0) t)
 
+-- the lowest way of the V-set that hits
 abbrev pub vFind : Processor → ℕ → Option ℕ
 vFind p vb = firstBelow vWays (λ w. hits vb (lineAt p (vb % vSets) w))
 
 abbrev pub holds : ℕ → REntry → Bool
 holds b e = both (not (isAbsent (e .state))) (eqb (e .block .0) b)
 
+-- the lowest way of the R-set whose entry is present with the block
 abbrev pub rFind : Processor → ℕ → Option ℕ
 rFind p b = firstBelow rWays (λ w. holds b (entryAt p (b % rSets) w))
 
@@ -123,6 +125,7 @@ freeLineBy Swapped p s w l = freeFilled p s w l
 abbrev pub freeLine : Processor → ℕ → ℕ → Processor
 freeLine p s w = freeLineBy (lineAt p s w .state) p s w (lineAt p s w)
 
+-- the V-way to free: the lowest empty one, else the rule's choice of all
 abbrev pub vWay : Rule → Processor → ℕ → ℕ
 vWay ru p s = withDefault (firstBelow vWays (λ w. isEmpty (lineAt p s w .state))) (ru .choice (getD (p .vrule) s 0) (flags ways (λ w. ltb w vWays)))
 
@@ -133,12 +136,13 @@ abbrev pub rChoice : Rule → ℕ → List Bool → Option ℕ → ℕ
 rChoice ru word free None = ru .choice word (flags ways (λ w. ltb w rWays))
 rChoice ru word free (Some k) = ru .choice word free
 
+-- the R-way to free: the lowest absent one, else the rule's choice among the entries without child, else among all
 abbrev pub rWay : Rule → Processor → ℕ → ℕ
 rWay ru p s =
     let f : ℕ → Bool = λ w. childless (entryAt p s w) in
     withDefault (firstBelow rWays (λ w. isAbsent (entryAt p s w .state))) (rChoice ru (getD (p .rrule) s 0) (flags ways (λ w. both (ltb w rWays) (f w))) (firstBelow rWays f))
 
--- an entry's child, if any, is let go
+-- an entry's child, if any, is freed as a V-line is
 abbrev pub freeChild : Processor → Child → Processor
 freeChild p NoChild = p
 freeChild p (At q d) = freeLine p (q .set) (q .way)
@@ -157,11 +161,11 @@ evictBy Absent p s w = p
 evictBy Private p s w = withCounts (putEntry p s w noEntry) (countReplaced (p .counts))
 evictBy Shared p s w = withCounts (putEntry p s w noEntry) (countReplaced (p .counts))
 
--- the place (s, w) becomes absent
+-- the entry at (s, w) becomes absent, and counts as replaced where it was present
 abbrev pub evict : Processor → ℕ → ℕ → Processor
 evict p s w = evictBy (entryAt p s w .state) p s w
 
--- replacement words
+-- the replacement word of a set after a way of it was used or loaded
 abbrev pub vUsed : Rule → Processor → ℕ → ℕ → Processor
 vUsed ru p s w = withVrule p (set (p .vrule) s (ru .used (getD (p .vrule) s 0) w))
 
@@ -174,7 +178,7 @@ rUsed ru p s w = withRrule p (set (p .rrule) s (ru .used (getD (p .rrule) s 0) w
 abbrev pub rLoaded : Rule → Processor → ℕ → ℕ → Processor
 rLoaded ru p s w = withRrule p (set (p .rrule) s (ru .loaded (getD (p .rrule) s 0) w))
 
--- step 3: the line becomes valid under the new tag
+-- a synonym in the same V-set: the line becomes valid under the new tag
 abbrev pub retagged : VLine → ℕ → VLine
 retagged l t = record { state = Valid; tag = record { 0 = t }; words = l .words; dirty = l .dirty; rplace = l .rplace }
 
@@ -184,14 +188,14 @@ withChild e c = record { state = e .state; block = e .block; words = e .words; r
 abbrev pub withState : REntry → EntryState → REntry
 withState e h = record { state = h; block = e .block; words = e .words; rdirty = e .rdirty; child = e .child }
 
--- step 4: the line at (s, w) goes to (t, u) under the tag g, its entry being at (rs, rw)
+-- a synonym in another V-set: the line at (s, w) goes to (t, u) with words and dirty flag, under the tag g; its entry is at (rs, rw)
 abbrev pub moved : Processor → ℕ → ℕ → ℕ → ℕ → ℕ → ℕ → ℕ → Processor
 moved p s w t u rs rw g =
     let l = lineAt p s w in
     let e = entryAt p rs rw in
     putEntry (putLine (putLine p s w noLine) t u (retagged l g)) rs rw (withChild e (At (record { set = t; way = u }) (vdirtyOf (e .child))))
 
--- step 5: the line (t, u) is filled from the entry (rs, rw), valid and clean
+-- the line (t, u) is filled from the entry (rs, rw), valid and clean
 abbrev pub filled : Processor → ℕ → ℕ → ℕ → ℕ → ℕ → Processor
 filled p t u rs rw g =
     let e = entryAt p rs rw in
@@ -222,5 +226,6 @@ swapLine l = record { state = swapState (l .state); tag = l .tag; words = l .wor
 abbrev pub swapAll : Processor → ℕ → Processor
 swapAll p proc = record { v = map (map swapLine) (p .v); r = p .r; vrule = p .vrule; rrule = p .rrule; process = record { 0 = proc }; counts = p .counts }
 
+-- a new processor: empty caches, the rules' first words, process 0, nothing counted
 abbrev pub newProcessor : Rule → Rule → Processor
 newProcessor vr rr = record { v = replicate vSets (replicate vWays noLine); r = replicate rSets (replicate rWays noEntry); vrule = replicate vSets (vr .first); rrule = replicate rSets (rr .first); process = record { 0 = 0 }; counts = record { fetched = 0; replaced = 0; invalidated = 0 } }

@@ -104,7 +104,7 @@ upgradeSent true st i rs rw = message Invalidation i noData (entryAt (cpuAt st i
 abbrev pub needsUpgrade : Option ℕ → REntry → Bool
 needsUpgrade v e = both (isWrite v) (isShared (e .state))
 
--- step 1
+-- a V-hit: level 0
 abbrev pub vHit : Rules → Board → Ref → ℕ → Reached
 vHit rs st r w =
     let s = r .vb % vSets in
@@ -113,7 +113,7 @@ vHit rs st r w =
     let st₁ = upgradeBy c st (r .cpu) (l .rplace .set) (l .rplace .way) in
     record { at = putCpu st₁ (r .cpu) (vUsed (rs .forV) (cpuAt st₁ (r .cpu)) s w); set = s; way = w; level = VHit; sent = upgradeSent c st (r .cpu) (l .rplace .set) (l .rplace .way) }
 
--- steps 3 to 5, past the upgrade; the processor before, the reference, the R-place
+-- an R-hit past the upgrade: the line is retagged, moved or filled, by the child of the entry at way k of the R-set
 pub record Attached : Type 0 where
   pub cpu : Processor
   pub way : ℕ
@@ -142,22 +142,7 @@ rHit rs st r b k =
     let a = attach (e .child) (rs .forV) (rs .forR) (cpuAt st₁ (r .cpu)) (r .vb) b k in
     record { at = putCpu st₁ (r .cpu) (a .cpu); set = r .vb % vSets; way = a .way; level = a .level; sent = upgradeSent c st (r .cpu) (b % rSets) k }
 
--- room for a block: a V-way is freed, then an R-way
-pub record MadeRoom : Type 0 where
-  pub cpu : Processor
-  pub vway : ℕ
-  pub rway : ℕ
-  pub victim : REntry
-
-abbrev pub makeRoom : Rule → Rule → Processor → ℕ → ℕ → MadeRoom
-makeRoom rv rr p s t =
-    let u = vWay rv p s in
-    let p₁ = freeLine p s u in
-    let k = rWay rr p₁ t in
-    let p₂ = freeChild p₁ (entryAt p₁ t k .child) in
-    record { cpu = evict p₂ t k; vway = u; rway = k; victim = entryAt p₂ t k }
-
--- step 6
+-- an R-miss: room is made, an rdirty entry that goes is written back, the block is fetched over the bus, and a line filled
 abbrev pub writeBackBy : Bool → Board → REntry → Board
 writeBackBy false st e = st
 writeBackBy true st e = withMem st (putBlock (st .mem) (e .block .0) (e .words))
@@ -234,7 +219,7 @@ abbrev pub completed : Option ℕ → Ref → Reached → Step
 completed None r a = record { number = 0; answer = record { level = a .level; word = getD (lineAt (cpuAt (a .at) (r .cpu)) (a .set) (a .way) .words) (r .word) 0; block = []; sent = a .sent }; after = counted (a .at) }
 completed (Some x) r a = record { number = 0; answer = record { level = a .level; word = 0; block = []; sent = a .sent }; after = counted (putCpu (a .at) (r .cpu) (stored (cpuAt (a .at) (r .cpu)) (a .set) (a .way) (r .word) x)) }
 
--- refusals, in their order
+-- refusals, in their order: 0 is none, and the first that is not 0 counts
 abbrev pub orElse : Bool → ℕ → ℕ → ℕ
 orElse true n m = n
 orElse false n m = m
@@ -276,7 +261,7 @@ makeRef i a v = record { cpu = i; vb = a / blockWords; word = a % blockWords; va
 abbrev pub reference : Rules → Board → ℕ → ℕ → Option ℕ → Step
 reference rs st i a v = refer (refNumber st i a (makeRef i a v)) rs st (makeRef i a v)
 
--- a switch
+-- a switch: 4, then 9
 abbrev pub switchNumber : Board → ℕ → ℕ → ℕ
 switchNumber st i q = orNext (fullNumber st) (orElse (leb ((st .cpus)) i) 4 (pick (leb processes q) 9 0))
 
@@ -287,7 +272,7 @@ switchBy (suc n) st i q = record { number = suc n; answer = nothing; after = st 
 abbrev pub switch : Board → ℕ → ℕ → Step
 switch st i q = switchBy (switchNumber st i q) st i q
 
--- remapping
+-- enter and erase: 9; valid lines of the page become swapped on every processor that runs the process
 abbrev pub swapPage : ℕ → VLine → VLine
 swapPage g l = pick (eqb (l .tag .0 / pageBlocks) g) (swapLine l) l
 

@@ -20,7 +20,7 @@ use Rattle.rules.specs.Bus.{Blocks, procAt, modified}
 use Rattle.rules.specs.Invariant.{Filled, Present, placed, Shaped, resident}
 use Rattle.rules.specs.Calls.{Board, cpuAt, physical}
 
--- a filled line l at (a, b), beside the entry e at its home
+-- a filled line l at (a, b), beside the entry e at its R-place
 pub record LineOk (T : ℕ → Option ℕ) (f : Blocks) (a b : ℕ) (l : VLine) (e : REntry) : Type 0 where
   pub up : e .child ≡ At (placed a b) (l .dirty)
   pub words : l .words ≡ f (e .block .0)
