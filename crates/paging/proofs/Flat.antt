@@ -12,7 +12,7 @@ use Rattle.std.proofs.shelf.Ways.{tells}
 use Rattle.std.proofs.shelf.Tests.{cond-true, cond-false}
 use Rattle.base.specs.Sizes.{frames, pages, processes}
 use Rattle.base.specs.declared.block.Frame.{Frame}
-use Rattle.paging.specs.Frames.{Frames, Small, Within, changed, entry, flat, named, numberOf, slot, slotOf, unmapped}
+use Rattle.paging.specs.Frames.{Frames, Small, Within, changed, entry, entryPut, flat, named, numberOf, slot, slotOf, unmapped}
 use Rattle.paging.proofs.Cells.{set-at}
 
 abbrev pub Entries : Type 0
@@ -58,27 +58,22 @@ within-by es p g f false n s e = let z : _≡_ {A = ℕ} 0 1 = cc in absurd (ome
 pub flat-within : (es : Entries) → Small es → Within (flat es)
 flat-within es s p g f e = within-by es p g f (named p g) refl s e
 
-at-slot-by : (p g s : ℕ) (b : Bool) → named p g ≡ b → cond b (Some (slot p g)) None ≡ Some s → (named p g ≡ true) × (slot p g ≡ s)
-at-slot-by p g s true n e = (n, cc)
-at-slot-by p g s false n e = let z : _≡_ {A = ℕ} 0 1 = cc in absurd (omega arith)
+-- the table after an entry was put, or refused
+put-by : (es : Entries) (o : Option Frame) (p g : ℕ) (b : Bool) → named p g ≡ b → (named p g ≡ true → length es ≡ processes * pages)
+    → flat (entryPut (cond b (Some (slot p g)) None) es o) ≡ changed b (flat es) p g (numberOf o)
+put-by es o p g true n l = flat-set es o p g n (l n)
+put-by es o p g false n l = refl
 
-pub at-slot : (p g s : ℕ) → slotOf p g ≡ Some s → (named p g ≡ true) × (slot p g ≡ s)
-at-slot p g s e = at-slot-by p g s (named p g) refl e
+pub flat-put : (es : Entries) (o : Option Frame) (p g : ℕ) → (named p g ≡ true → length es ≡ processes * pages) → flat (entryPut (slotOf p g) es o) ≡ changed (named p g) (flat es) p g (numberOf o)
+flat-put es o p g l = put-by es o p g (named p g) refl l
 
--- the table after a write to the slot of a page
-pub flat-changed : (es : Entries) (o : Option Frame) (p g s : ℕ) (t : Bool) → slotOf p g ≡ Some s → t ≡ true → length es ≡ processes * pages
-    → flat (set es s o) ≡ changed t (flat es) p g (numberOf o)
-flat-changed es o p g s t e k l =
-    let a = at-slot p g s e in
-    subst (λ x. flat (set es x o) ≡ changed t (flat es) p g (numberOf o)) (a .1)
-    (flat-set es o p g (a .0) l ∙ sym (cond-true t (entry (flat es) p g (numberOf o)) (flat es) k))
+small-put-by : (es : Entries) (o : Option Frame) (p g : ℕ) (b : Bool) → named p g ≡ b → (named p g ≡ true → length es ≡ processes * pages) → ((x : ℕ) → numberOf o ≡ Some x → x < frames)
+    → Small es → Small (entryPut (cond b (Some (slot p g)) None) es o)
+small-put-by es o p g true n l k s = let w = slot-within p g n in let m = l n in small-set es o (slot p g) (omega arith) k s
+small-put-by es o p g false n l k s = s
 
-pub small-changed : (es : Entries) (o : Option Frame) (p g s : ℕ) → slotOf p g ≡ Some s → length es ≡ processes * pages
-    → ((x : ℕ) → numberOf o ≡ Some x → x < frames) → Small es → Small (set es s o)
-small-changed es o p g s e l k h =
-    let a = at-slot p g s e in
-    let w = slot-within p g (a .0) in
-    small-set es o s (let d = a .1 in omega arith) k h
+pub small-put : (es : Entries) (o : Option Frame) (p g : ℕ) → (named p g ≡ true → length es ≡ processes * pages) → ((x : ℕ) → numberOf o ≡ Some x → x < frames) → Small es → Small (entryPut (slotOf p g) es o)
+small-put es o p g l k s = small-put-by es o p g (named p g) refl l k s
 
 pub none-small : (x : ℕ) → numberOf None ≡ Some x → x < frames
 none-small x e = let z : _≡_ {A = ℕ} 0 1 = cc in absurd (omega arith)

@@ -4,7 +4,7 @@ use mathlib.Core.List.{List}
 use mathlib.Core.Path.{_≡_}
 use Prim.Native.Nat.{ℕ, _+_, _*_, _%_, _<_}
 use lib.Dec.{eqb, ltb}
-use lib.ListN.{getD}
+use lib.ListN.{getD, set}
 use Rattle.std.specs.declared.option.Option.{Option}
 use Rattle.std.specs.declared.option.Option.the-variants.{None, Some}
 use Rattle.std.specs.declared.result.Result.{Result}
@@ -88,6 +88,11 @@ slot p g = p * pages + g
 
 abbrev pub slotOf : ℕ → ℕ → Option ℕ
 slotOf p g = cond (named p g) (Some (slot p g)) None
+
+-- the entries with one of them replaced, where there is a slot for it
+abbrev pub entryPut : Option ℕ → List (Option Frame) → Option Frame → List (Option Frame)
+entryPut (Some i) es o = set es i o
+entryPut None es o = es
 
 abbrev pub flat : List (Option Frame) → Frames
 flat es p g = cond (named p g) (numberOf (getD es (slot p g) None)) None

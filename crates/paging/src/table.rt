@@ -1,10 +1,11 @@
 ghost use mathlib.Core.Path.{_≡_};
-ghost use lib.ListN.{replicate};
+ghost use lib.ListN.{length, replicate};
+ghost use mathlib.Core.Bool.{true};
 ghost use Prim.Native.Nat.{_*_};
 ghost use Rattle.base.specs.Sizes.{pages, processes};
 ghost use Rattle.std.specs.declared.option.Option.{Option};
 ghost use Rattle.std.specs.declared.option.Option.the-variants.{Some, None};
-ghost use Rattle.paging.specs.Frames.{Small, flat, slotOf, unmapped};
+ghost use Rattle.paging.specs.Frames.{Small, changing, entryPut, flat, named, slotOf, unmapped};
 use crate::fault::MapFault;
 use crate::map::ChangeableMap;
 use crate::map::Map;
@@ -39,6 +40,19 @@ impl FlatTable {
             entries: no_entries(),
         }
     }
+
+    // Replaces the entry of a page, where process and page are in their ranges.
+    fn put(&mut self, process: Process, page: Page, entry: Option<Frame>) -> Result<(), MapFault>
+        ensures answer { λ r. ⌜ r ≡ changing (named (process .0) (page .0)) page ⌝ }
+        ensures size { λ _. ⌜ (named (process .0) (page .0) ≡ true → length (now (self .entry) .entries) ≡ processes * pages) ⌝ }
+        ensures entries { λ _. ⌜ now (self .exit) .entries ≡ entryPut (slotOf (process .0) (page .0)) (now (self .entry) .entries) entry ⌝ }
+    {
+        let Some(slot) = slot_of(process, page) else {
+            return Err(MapFault::OutOfRange { page });
+        };
+        self.entries[slot] = entry;
+        Ok(())
+    }
 }
 
 // Where the entry of a page stands, if process and page are in their ranges.
@@ -70,21 +84,13 @@ pub impl Map for FlatTable as FlatTableMap {
 
 pub impl ChangeableMap for FlatTable as FlatTableChangeableMap {
     fn enter(&mut self, process: Process, page: Page, to: Frame) -> Result<(), MapFault> {
-        let Some(slot) = slot_of(process, page) else {
-            return Err(MapFault::OutOfRange { page });
-        };
         if to.0 >= FRAMES {
             return Err(MapFault::OutOfRange { page });
         }
-        self.entries[slot] = Some(to);
-        Ok(())
+        self.put(process, page, Some(to))
     }
 
     fn erase(&mut self, process: Process, page: Page) -> Result<(), MapFault> {
-        let Some(slot) = slot_of(process, page) else {
-            return Err(MapFault::OutOfRange { page });
-        };
-        self.entries[slot] = None;
-        Ok(())
+        self.put(process, page, None)
     }
 }
