@@ -1,0 +1,5 @@
+pub mod Found
+pub mod Ranged
+pub mod Supply
+pub mod Choice
+pub mod Filled
