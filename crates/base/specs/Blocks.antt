@@ -1,5 +1,5 @@
 -- How addresses, virtual blocks and pages hang together.
-use Rattle.std.specs.Prelude.{◌≡◌, ℕ, ◌+◌, ◌*◌, ◌/◌, ◌%◌, cond, Some, None, Option, nat_lt}
+use Rattle.std.specs.Prelude.{ℕ, ◌+◌, ◌*◌, ◌/◌, ◌%◌, cond, Some, None, Option, nat_lt}
 use Rattle.base.specs.Sizes.{addresses, block_words, page_blocks}
 use Rattle.base.specs.declared.block.Address.{Address}
 

@@ -1,7 +1,7 @@
 -- The first number below a bound that passes, found by counting up.
-use Rattle.std.proofs.Common.{◌≡◌, ℕ, zero, suc, ◌+◌, ◌<◌, ◌≤◌, Bool, true, false, Some, None, Option, sym, refl, ap, ◌∙◌, add-one, arith}
+use Rattle.std.proofs.Common.{◌≡◌, ℕ, zero, suc, ◌+◌, ◌<◌, Bool, true, false, Some, None, add-one, arith}
 use native.Mathlib.Decide.{dec_lt}
-use Rattle.rules.specs.Basic.{first_below, or_at}
+use Rattle.rules.specs.Basic.{first_below}
 
 pub first_more : (n : ℕ) (f : ℕ → Bool) → first_below n f ≡ None → f n ≡ false → first_below (n + 1) f ≡ None
 first_more n f h e = rw (add-one, h, e)

@@ -1,5 +1,5 @@
 -- A sound processor names no place outside its tables.
-use Rattle.std.proofs.Common.{◌≡◌, ℕ, ◌<◌, Bool, Option}
+use Rattle.std.proofs.Common.{ℕ, Option}
 use Rattle.tables.specs.declared.types.Processor.{Processor}
 use Rattle.rules.specs.Cache.{line_at}
 use Rattle.rules.specs.Bus.{Blocks}

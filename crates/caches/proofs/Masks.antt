@@ -1,10 +1,10 @@
 -- Places taken modulo the sizes, as the code takes them, are the places given where those are in range.
-use Rattle.std.proofs.Common.{◌≡◌, ℕ, ◌%◌, ◌<◌, Bool, true, false, ◌||◌, set, sym, refl, ap, ◌∙◌, mod-eq_of_lt}
+use Rattle.std.proofs.Common.{◌≡◌, ℕ, ◌%◌, ◌<◌, Bool, true, false, set, sym, refl, ap, ◌∙◌, mod-eq_of_lt}
 use Rattle.base.specs.Sizes.{block_words}
 use Rattle.tables.specs.declared.types.LineState.{LineState}
 use Rattle.tables.specs.declared.types.LineState.TheVariants.{Empty, Valid, Swapped}
 use Rattle.tables.specs.declared.types.Child.{Child}
-use Rattle.tables.specs.declared.types.Child.TheVariants.{NoChild, At}
+use Rattle.tables.specs.declared.types.Child.TheVariants.{At}
 use Rattle.tables.specs.declared.types.VLine.{VLine}
 use Rattle.tables.specs.declared.types.REntry.{REntry}
 use Rattle.tables.specs.declared.types.Processor.{Processor}

@@ -1,5 +1,5 @@
 -- A way found by counting up is that of the search's definition.
-use Rattle.std.proofs.Common.{◌≡◌, ℕ, ◌%◌, ◌<◌, ◌≤◌, Bool, true, false, Some, None, Option, sym, refl, ap, ◌∙◌, subst, arith}
+use Rattle.std.proofs.Common.{◌≡◌, ℕ, ◌%◌, ◌<◌, true, Some, None, sym, ap, ◌∙◌}
 use Rattle.tables.specs.declared.types.Processor.{Processor}
 use Rattle.rules.specs.Sizes.{v_sets, v_ways, r_sets, r_ways}
 use Rattle.rules.specs.Basic.{first_below}

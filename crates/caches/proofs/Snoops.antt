@@ -1,18 +1,17 @@
 -- The parts of what a processor does at a message make the whole.
-use Rattle.std.proofs.Common.{◌≡◌, ℕ, ◌+◌, ◌-◌, ◌%◌, ◌^◌, ◌<◌, Bool, true, false, ◌||◌, List, [], ◌∷◌, get_or, set, Some, None, Option, sym, refl, ap, ◌∙◌, subst, mod-eq_of_lt}
-use Rattle.tables.specs.declared.types.EntryState.TheVariants.{Absent, Private, Shared}
+use Rattle.std.proofs.Common.{◌≡◌, ℕ, ◌-◌, ◌%◌, ◌^◌, ◌<◌, Bool, true, false, List, Some, sym, refl, ap, ◌∙◌, subst, mod-eq_of_lt}
+use Rattle.tables.specs.declared.types.EntryState.TheVariants.{Shared}
 use Rattle.tables.specs.declared.types.Child.{Child}
 use Rattle.tables.specs.declared.types.Child.TheVariants.{NoChild, At}
 use Rattle.tables.specs.declared.types.Place.{Place}
-use Rattle.tables.specs.declared.types.Snoop.{Snoop}
-use Rattle.tables.specs.declared.types.Snoop.TheVariants.{NotHeld, Held, Supplied}
+use Rattle.tables.specs.declared.types.Snoop.TheVariants.{Held, Supplied}
 use Rattle.tables.specs.declared.types.VLine.{VLine}
 use Rattle.tables.specs.declared.types.REntry.{REntry}
 use Rattle.tables.specs.declared.types.Counts.{Counts}
 use Rattle.tables.specs.declared.types.Processor.{Processor}
-use Rattle.rules.specs.Sizes.{v_sets, v_ways, r_sets, r_ways}
+use Rattle.rules.specs.Sizes.{v_sets, v_ways, r_sets}
 use Rattle.rules.specs.Cache.{line_at, entry_at, put_line, put_entry, no_line, no_entry, count_invalidated, r_find, with_counts, with_state}
-use Rattle.rules.specs.Bus.{empty_at, clean_at, clean_line, child_words, current, supplied, modified, take_by, shared_by, shared_held, seen_by, seen_held}
+use Rattle.rules.specs.Bus.{empty_at, clean_at, clean_line, child_words, current, modified, take_by, shared_by, shared_held, seen_by, seen_held}
 use Rattle.caches.specs.Ranged.{Ranged, ChildIn}
 use Rattle.caches.specs.Supply.{supplied_with}
 

@@ -1,5 +1,5 @@
 -- The ways chosen, the words of the rules and the eviction of an entry, over places modulo the sizes.
-use Rattle.std.proofs.Common.{◌≡◌, ℕ, ◌+◌, ◌-◌, ◌%◌, ◌^◌, ◌<◌, ◌≤◌, Bool, true, false, ltb, List, [], ◌∷◌, length, get_or, set, Some, None, Option, sym, refl, ap, ◌∙◌, subst, mod-eq_of_lt, arith, ltb-true, lt-ltb}
+use Rattle.std.proofs.Common.{◌≡◌, ℕ, ◌-◌, ◌%◌, ◌^◌, ◌<◌, ◌≤◌, Bool, true, false, ltb, List, get_or, set, Some, None, Option, sym, refl, ap, ◌∙◌, subst, mod-eq_of_lt, arith, ltb-true, lt-ltb}
 use Rattle.replacement.specs.Sizes.{ways}
 use Rattle.tables.specs.declared.types.EntryState.{EntryState}
 use Rattle.tables.specs.declared.types.EntryState.TheVariants.{Absent, Private, Shared}

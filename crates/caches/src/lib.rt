@@ -1,3 +1,5 @@
+#![tactic(auto)]
+
 pub mod blank;
 pub mod choice;
 pub mod entry;

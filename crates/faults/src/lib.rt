@@ -1,3 +1,5 @@
+#![tactic(auto)]
+
 pub mod beside;
 pub mod machine_fault;
 pub mod trace_fault;

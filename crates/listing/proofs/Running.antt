@@ -17,10 +17,10 @@ use Rattle.lines.specs.declared.line.Level.TheVariants.{NoReference}
 use Rattle.lines.specs.Lines.{line_bytes}
 use Rattle.memory.specs.declared.fault.MemoryFault.{MemoryFault}
 use Rattle.memory.specs.declared.fault.MemoryFault.TheVariants.{Outside}
-use Rattle.memory.specs.Fault.{fault_number as memoryNumber}
+use Rattle.memory.specs.Fault.{fault_number as memory_number}
 use Rattle.paging.specs.declared.fault.MapFault.{MapFault}
 use Rattle.paging.specs.declared.fault.MapFault.TheVariants.{NoFrame, OutOfRange}
-use Rattle.paging.specs.Fault.{fault_number as mapNumber}
+use Rattle.paging.specs.Fault.{fault_number as map_number}
 use Rattle.faults.specs.declared.machine_fault.SetupFault.{SetupFault}
 use Rattle.faults.specs.declared.machine_fault.SetupFault.TheVariants.{Processors, MemorySize}
 use Rattle.faults.specs.declared.machine_fault.MachineFault.{MachineFault}
@@ -86,11 +86,11 @@ played_nothing rs (DeviceRead b) st k e = moved_nothing _ k st (λ s. device_rea
 played_nothing rs (DeviceWrite b ws) st k e = moved_nothing _ k st (λ s. device_write_nothing (device_number s s.number b.0 (length ws)) k b.0 ws s) e
 
 -- so the line of a run record is the rules', refused or not
-map_positive : (f : MapFault) → (k : ℕ) × (mapNumber f ≡ suc k)
+map_positive : (f : MapFault) → (k : ℕ) × (map_number f ≡ suc k)
 map_positive (NoFrame g) = (5, refl)
 map_positive (OutOfRange g) = (8, refl)
 
-memory_positive : (f : MemoryFault) → (k : ℕ) × (memoryNumber f ≡ suc k)
+memory_positive : (f : MemoryFault) → (k : ℕ) × (memory_number f ≡ suc k)
 memory_positive (Outside b) = (11, refl)
 
 setup_positive : (f : SetupFault) → (k : ℕ) × (setup_fault_number f ≡ suc k)

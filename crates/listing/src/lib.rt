@@ -1,3 +1,5 @@
+#![tactic(auto)]
+
 pub mod list;
 pub mod play;
 pub mod shown;

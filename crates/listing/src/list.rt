@@ -4,7 +4,7 @@ ghost use Rattle.lines.specs.Lines.{line_bytes, line_length};
 ghost use Rattle.listing.specs.Listed.{Listed, words_from};
 ghost use Rattle.machine.specs.State.{HasPast, board, rules_of};
 ghost use Rattle.rules.specs.History.{History, Setup};
-ghost use Rattle.rules.specs.Listing.{fault_line as lineOfFault};
+ghost use Rattle.rules.specs.Listing.{fault_line as line_of_fault};
 
 use crate::play::{line_for, run_record};
 use lines::line::{LINE_BYTES, Level, Line, line_bytes};
@@ -40,7 +40,7 @@ fn push_line(out: &mut Vec<u8>, line: Line)
 
 // The line of a fault of the trace.
 fn fault_line(fault: FormatFault) -> Line
-    ensures { result ≡ lineOfFault fault }
+    ensures { result ≡ line_of_fault fault }
 {
     Line {
         record: fault.place(),

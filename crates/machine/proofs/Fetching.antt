@@ -263,7 +263,7 @@ module _ {M S V R : Type 0} (m : maps.Ghosts M) (s : memories.Ghosts S) (v : rep
             let fl : Filled (line_at (proc_at (set qs cpu p₅) cpu) t' room.line_way) = subst (λ (c : VLine). Filled c) (λ j. line_at (sym same j) (sym et j) (sym rm.line_way j)) (valid_filled (line_at (cpu_at reached.at i) t way).state ok.valid) in
             let memory_is : with_procs (board m s v u (with m s v u x y₃ x.processors x.accepted)) (landed st Z).procs ≡ landed st Z =
             λ j. record { procs = (landed st Z).procs; cpus = st.cpus; mem = eb₃ j; count = (ec₃ ∙ fe.count ∙ bk.count) j; table = st.table; held = st.held; accepted = st.accepted; setup = st.setup; number = st.number } in
-            ends m s v u (reference_fault r.processor (page_at r)) x y₃ r reached ps acc word Miss q _ (record { map = A.sound.map; memory = so₃ }) (ap (λ (c : Bool). Rattle.rules.specs.Calls.busNumber c true) free)
+            ends m s v u (reference_fault r.processor (page_at r)) x y₃ r reached ps acc word Miss q _ (record { map = A.sound.map; memory = so₃ }) (ap (λ (c : Bool). Rattle.rules.specs.Calls.bus_number c true) free)
             (ap (λ (c : Board). with_procs (board m s v u (with m s v u x y₃ x.processors x.accepted)) c.procs) at_here ∙ memory_is ∙ sym at_here)
             (ef lt rg fl ∙ (λ j. finished r.value (ix j) (ec j) (et j) (rm.line_way j) (ew j)))
             (eo lt ∙ (λ j. answered r.value (ix j) (ec j) (et j) (rm.line_way j) (ew j)))

@@ -22,7 +22,7 @@ use Rattle.tables.specs.declared.types.Processor.{Processor as Records}
 use Rattle.rules.specs.Sizes.{most_processors, page_blocks}
 use Rattle.rules.specs.Bus.{Blocks, proc_at}
 use Rattle.rules.specs.Cache.{r_find}
-use Rattle.rules.specs.Calls.{Board, Rules, Step, block_of as blockBy, completed, cpu_at, frame_number, frame_of, miss_by, or_else, physical, r_number, v_miss}
+use Rattle.rules.specs.Calls.{Board, Rules, Step, block_of as block_by, completed, cpu_at, frame_number, frame_of, miss_by, or_else, physical, r_number, v_miss}
 use Rattle.rules.specs.Ready.{Ready}
 use Rattle.machine.specs.Answers.{access_answer}
 use Rattle.machine.specs.References.{ref_of, unless}
@@ -45,7 +45,7 @@ same_page : (vb : ℕ) → page_of vb ≡ vb / page_blocks
 unfolding page_blocks
 same_page vb = refl
 
-same_block : (fr vb : ℕ) → physical fr vb ≡ (Rattle.paging.specs.Frames.blockIn fr vb).0
+same_block : (fr vb : ℕ) → physical fr vb ≡ (Rattle.paging.specs.Frames.block_in fr vb).0
 unfolding page_blocks
 same_block fr vb = refl
 
@@ -72,7 +72,7 @@ module _ (t : ℕ → ℕ → Option ℕ) (q : Process) (w : VirtualBlock) (a : 
           let both : ◌≡◌ {A = MapFault × Caller} (fault, c) (NoFrame (page_with w), who) = cc in
           (sym cell ∙ e, ap (λ (z : MapFault × Caller). z.0) both ∙ pg, ap (λ (z : MapFault × Caller). z.1) both)
       go (Some f) e =
-          let k : ◌≡◌ {A = Result PhysicalBlock (MapFault × Caller)} (Err (fault, c)) (Ok (Rattle.paging.specs.Frames.blockIn f w.0)) = sym q' ∙ given ∙ ap (λ (f : Option ℕ). besides (in_frame w (found f (page_with w))) who) e in
+          let k : ◌≡◌ {A = Result PhysicalBlock (MapFault × Caller)} (Err (fault, c)) (Ok (Rattle.paging.specs.Frames.block_in f w.0)) = sym q' ∙ given ∙ ap (λ (f : Option ℕ). besides (in_frame w (found f (page_with w))) who) e in
           let z : ◌≡◌ {A = ℕ} 0 1 = cc in
           absurd (omega arith)
 
@@ -86,15 +86,15 @@ module _ (t : ℕ → ℕ → Option ℕ) (q : Process) (w : VirtualBlock) (a : 
           let z : ◌≡◌ {A = ℕ} 0 1 = cc in
           absurd (omega arith)
       go (Some f) e =
-          let k : ◌≡◌ {A = Result PhysicalBlock (MapFault × Caller)} (Ok b) (Ok (Rattle.paging.specs.Frames.blockIn f w.0)) = sym q' ∙ given ∙ ap (λ (f : Option ℕ). besides (in_frame w (found f (page_with w))) who) e in
-          let kb : b ≡ Rattle.paging.specs.Frames.blockIn f w.0 = cc in
+          let k : ◌≡◌ {A = Result PhysicalBlock (MapFault × Caller)} (Ok b) (Ok (Rattle.paging.specs.Frames.block_in f w.0)) = sym q' ∙ given ∙ ap (λ (f : Option ℕ). besides (in_frame w (found f (page_with w))) who) e in
+          let kb : b ≡ Rattle.paging.specs.Frames.block_in f w.0 = cc in
           (f, sym cell ∙ e, ap (λ (z : PhysicalBlock). z.0) kb ∙ sym (same_block f w.0) ∙ ap (physical f) ew)
 
 -- the step of a miss, by what the map and the R-set have
 miss_step_lem : (rs : Rules) (st : Board) (r : Reference) (fr : ℕ) (o : Option ℕ) → frame_of st (ref_of r) ≡ Some fr → leb st.count (physical fr (ref_of r).vb) ≡ false → r_find (cpu_at st r.processor.0) (physical fr (ref_of r).vb) ≡ o
     → miss_step rs st r ≡ unless (r_number o st (ref_of r) (physical fr (ref_of r).vb)) st (completed r.value (ref_of r) (miss_by o rs st (ref_of r) (physical fr (ref_of r).vb)))
 miss_step_lem rs st r fr o ef el eo =
-    ap (λ (z : Option ℕ). unless (frame_number z st (ref_of r)) st (completed r.value (ref_of r) (miss_by (r_find (cpu_at st r.processor.0) (blockBy st (ref_of r) z)) rs st (ref_of r) (blockBy st (ref_of r) z)))) ef
+    ap (λ (z : Option ℕ). unless (frame_number z st (ref_of r)) st (completed r.value (ref_of r) (miss_by (r_find (cpu_at st r.processor.0) (block_by st (ref_of r) z)) rs st (ref_of r) (block_by st (ref_of r) z)))) ef
     ∙ (λ j. unless (or_else (el j) 7 (r_number (eo j) st (ref_of r) (physical fr (ref_of r).vb))) st (completed r.value (ref_of r) (miss_by (eo j) rs st (ref_of r) (physical fr (ref_of r).vb))))
 
 module _ {M S V R : Type 0} (m : maps.Ghosts M) (s : memories.Ghosts S) (v : replacements.Ghosts V) (u : replacements.Ghosts R)

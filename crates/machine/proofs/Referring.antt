@@ -79,7 +79,7 @@ module _ {M S V R : Type 0} (m : maps.Ghosts M) (s : memories.Ghosts S) (v : rep
 
   module _ (so : Sound m s v u x) (O : Open m s v u x so) where
     -- no such processor
-    pub refer_missing : (e : MachineFault) → Missing x.count p e → x.count ≤ Rattle.rules.specs.Sizes.mostProcessors → Does m s v u x x (Tells access_answer which (Err e)) (reference (rules_of m s v u x) st p.0 a w)
+    pub refer_missing : (e : MachineFault) → Missing x.count p e → x.count ≤ Rattle.rules.specs.Sizes.most_processors → Does m s v u x x (Tells access_answer which (Err e)) (reference (rules_of m s v u x) st p.0 a w)
     refer_missing e k few =
         refer_refused x (Err e) (stops m s v u which x access_answer x 3 _ _ e so refl refl
         (λ j. or_next (O.full j) (or_else (le-leb st.cpus p.0 (k.above few) j) 4 (or_else (leb addresses a) 5 (v_number (v_find (cpu_at st p.0) ref.vb) st ref)))) k.fault (rw k.fault))

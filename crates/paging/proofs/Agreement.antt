@@ -1,11 +1,11 @@
 -- The places of a translation buffer go on agreeing with the map below.
-use Rattle.std.proofs.Common.{◌≡◌, ℕ, zero, suc, ◌%◌, ◌<◌, Bool, true, false, cond, ◌&&◌, eqb, ◌≢◌, List, length, get_or, set, replicate, Some, None, Ok, Err, Option, Result, sym, refl, ap, ◌∙◌, subst, arith}
+use Rattle.std.proofs.Common.{◌≡◌, ℕ, zero, suc, ◌%◌, Bool, true, false, cond, ◌&&◌, eqb, List, set, replicate, Some, None, Ok, Err, Option, sym, refl, ap, ◌∙◌, subst, arith}
 use Rattle.std.proofs.lemmas.Bool.Decides.{nat_tests}
 use Rattle.std.proofs.lemmas.Bool.{and_parts, cond-true, cond-false, eqb-true}
 use Rattle.base.specs.declared.block.Frame.{Frame}
 use Rattle.base.specs.declared.block.Page.{Page}
 use Rattle.base.specs.declared.block.Process.{Process}
-use Rattle.paging.specs.Frames.{Frames, Within, changed, changing, entry, found, looked, named}
+use Rattle.paging.specs.Frames.{Frames, Within, changed, changing, found, looked, named}
 use Rattle.paging.specs.Places.{Agree, Agrees, given, kept, place_at, place_of, places}
 use Rattle.paging.specs.declared.fault.MapFault.{MapFault}
 use Rattle.paging.specs.declared.place.Place.{Place}

@@ -1,5 +1,5 @@
 -- A list with one element replaced, at every index.
-use Rattle.std.specs.Prelude.{◌≡◌, ℕ, zero, suc, ◌<◌, true, false, cond, ◌≢◌, List, [], ◌∷◌, length, ◌==◌, slice_index_or, slice_set, refl}
+use Rattle.std.specs.Prelude.{◌≡◌, ℕ, zero, suc, ◌<◌, cond, ◌≢◌, List, [], ◌∷◌, length, ◌==◌, slice_index_or, slice_set, refl}
 use Rattle.std.proofs.Common.{sym, subst, get_or-set_same, get_or-set_other}
 use Rattle.std.proofs.Math.Decide.{ℕ_discrete}
 use Rattle.std.proofs.lemmas.Bool.{eq-eqb, ne_eqb}

@@ -1,11 +1,11 @@
 -- The flat table means what its entries say, and one entry replaced is one entry of the meaning replaced.
-use Rattle.std.specs.Prelude.{◌≡◌, ℕ, zero, suc, ◌+◌, ◌*◌, ◌<◌, Bool, true, false, cond, ◌&&◌, List, length, get_or, replicate, Some, None, Option, ◌==◌, slice_index_or, slice_set, refl}
+use Rattle.std.specs.Prelude.{◌≡◌, ℕ, zero, suc, ◌*◌, ◌<◌, Bool, true, false, cond, ◌&&◌, List, length, get_or, replicate, Some, None, Option, ◌==◌, slice_index_or, slice_set, refl}
 use Rattle.std.proofs.Common.{sym, ap, ◌∙◌, subst, arith}
 use Rattle.std.proofs.lemmas.Bool.Decides.{nat_tests}
-use Rattle.std.proofs.lemmas.Bool.{cond-true, cond-false}
+use Rattle.std.proofs.lemmas.Bool.{cond-false}
 use Rattle.base.specs.Sizes.{frames, pages, processes}
 use Rattle.base.specs.declared.block.Frame.{Frame}
-use Rattle.paging.specs.Frames.{Frames, Small, Within, changed, entry, entry_put, flat, named, number_of, slot, slot_of, unmapped}
+use Rattle.paging.specs.Frames.{Small, Within, changed, entry, entry_put, flat, named, number_of, slot, slot_of, unmapped}
 use Rattle.paging.specs.Cells.{set_at}
 
 abbrev pub Entries : Type 0

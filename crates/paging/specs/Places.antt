@@ -1,5 +1,5 @@
 -- The places of a translation buffer.
-use Rattle.std.specs.Prelude.{◌≡◌, ℕ, ◌%◌, Bool, true, false, cond, ◌&&◌, List, Some, None, Ok, Err, Option, Result, ◌==◌, slice_index_or, slice_set}
+use Rattle.std.specs.Prelude.{◌≡◌, ℕ, ◌%◌, cond, ◌&&◌, List, Some, None, Ok, Err, Option, Result, ◌==◌, slice_index_or, slice_set}
 use Rattle.base.specs.declared.block.Frame.{Frame}
 use Rattle.base.specs.declared.block.Page.{Page}
 use Rattle.base.specs.declared.block.Process.{Process}

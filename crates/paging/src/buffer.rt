@@ -1,6 +1,6 @@
 ghost use Rattle.std.specs.Prelude.{◌≡◌, ℕ, Bool, true, replicate, is_some, Some, None, slice_set};
 ghost use Rattle.paging.specs.Frames.{changed, changing, enters, looked, named, page_with, translated};
-ghost use Rattle.paging.specs.Places.{Agree, after_change, after_look, given, kept as keptIn, place_of, places as placeCount};
+ghost use Rattle.paging.specs.Places.{Agree, after_change, after_look, given, kept as kept_in, place_of, places as place_count};
 ghost use Rattle.paging.specs.declared.place.Place.TheVariants.{Empty};
 
 use crate::fault::MapFault;
@@ -20,7 +20,7 @@ pub struct TranslationBuffer<M> {
 }
 
 fn empty_places() -> [Place; PLACES]
-    ensures { result ≡ replicate placeCount Empty }
+    ensures { result ≡ replicate place_count Empty }
 {
     [Place::Empty; PLACES]
 }
@@ -30,7 +30,7 @@ impl<M: Map> TranslationBuffer<M> {
     pub fn new(below: M) -> TranslationBuffer<M>
         ensures sound { M.Map.sound below → M.Map.sound result.below × Agree (M.Map.frame result.below) result.places }
         ensures same { result.below ≡ below }
-        ensures empty { result.places ≡ replicate placeCount Empty }
+        ensures empty { result.places ≡ replicate place_count Empty }
     {
         TranslationBuffer {
             below,
@@ -48,7 +48,7 @@ impl<M: Map> TranslationBuffer<M> {
 
     // The frame that the page's place gives.
     fn kept_frame(&self, process: Process, page: Page) -> Option<Frame>
-        ensures { result ≡ keptIn self.now.places process page }
+        ensures { result ≡ kept_in self.now.places process page }
     {
         match self.places[page.0 as usize % PLACES] {
             Place::Empty => None,
@@ -85,8 +85,8 @@ impl<M: Map> Map for TranslationBuffer<M> {
         ensures kept { M.Map.sound self.old.below × Agree (M.Map.frame self.old.below) self.old.places → M.Map.sound self.new.below × Agree (M.Map.frame self.new.below) self.new.places }
         ensures answer { M.Map.sound self.old.below × Agree (M.Map.frame self.old.below) self.old.places → result ≡ looked (M.Map.frame self.old.below) process page }
         ensures frames { M.Map.sound self.old.below × Agree (M.Map.frame self.old.below) self.old.places → M.Map.frame self.new.below ≡ M.Map.frame self.old.below }
-        ensures places { self.new.places ≡ after_look (keptIn self.old.places process page) self.old.places process page result }
-        ensures untouched { is_some (keptIn self.old.places process page) ≡ true → self.new.below ≡ self.old.below }
+        ensures places { self.new.places ≡ after_look (kept_in self.old.places process page) self.old.places process page result }
+        ensures untouched { is_some (kept_in self.old.places process page) ≡ true → self.new.below ≡ self.old.below }
     {
         if let Some(frame) = self.kept_frame(process, page) {
             return Ok(frame);
@@ -108,8 +108,8 @@ impl<M: Map> Map for TranslationBuffer<M> {
         ensures kept { M.Map.sound self.old.below × Agree (M.Map.frame self.old.below) self.old.places → M.Map.sound self.new.below × Agree (M.Map.frame self.new.below) self.new.places }
         ensures answer { M.Map.sound self.old.below × Agree (M.Map.frame self.old.below) self.old.places → result ≡ translated (M.Map.frame self.old.below) process block }
         ensures frames { M.Map.sound self.old.below × Agree (M.Map.frame self.old.below) self.old.places → M.Map.frame self.new.below ≡ M.Map.frame self.old.below }
-        ensures places { M.Map.sound self.old.below × Agree (M.Map.frame self.old.below) self.old.places → self.new.places ≡ after_look (keptIn self.old.places process (page_with block)) self.old.places process (page_with block) (looked (M.Map.frame self.old.below) process (page_with block)) }
-        ensures untouched { is_some (keptIn self.old.places process (page_with block)) ≡ true → self.new.below ≡ self.old.below }
+        ensures places { M.Map.sound self.old.below × Agree (M.Map.frame self.old.below) self.old.places → self.new.places ≡ after_look (kept_in self.old.places process (page_with block)) self.old.places process (page_with block) (looked (M.Map.frame self.old.below) process (page_with block)) }
+        ensures untouched { is_some (kept_in self.old.places process (page_with block)) ≡ true → self.new.below ≡ self.old.below }
     {
         let frame = self.frame_of(process, block.page())?;
         Ok(block_in(frame, block))
@@ -142,7 +142,7 @@ impl<M: ChangeableMap> ChangeableMap for TranslationBuffer<M> {
 
 // Asks that a map be sound.
 fn asks_sound<M: Map>(map: &M)
-    requires { sound map.now }
+    requires { M.sound map.now }
 {}
 
 // Each map as it is made is sound, and so is a buffer over it.

@@ -1,4 +1,6 @@
 // Tests of memories, maps and replacement rules on examples.
+#![tactic(auto)]
+
 #[cfg(test)]
 mod memory_tests;
 #[cfg(test)]

@@ -99,7 +99,11 @@ fn check_case(
     let words = &mut words[0..length];
     fill(words);
     let mut memory = WordMemory::new(words);
-    assert_eq!(rt; memory.count_blocks(), count);
+    assert_eq!(rt;
+        memory.count_blocks(),
+        count,
+        "block {number} of {length} words"
+    );
     check_block(rt, &mut memory, number, old)?;
     let written = match old {
         Some(_) => Some(4 * u32::from(number)),
@@ -126,9 +130,7 @@ fn words_as_memory(rt: HostRuntime) -> Result<(), Fail> {
         (LENGTH, 512, 65_535, None),
     ];
     for (length, count, number, old) in CASES {
-        check_case(&rt, words, length, count, number, old).note(format_args!(
-            "block {number} of {length} words"
-        ))?;
+        check_case(&rt, words, length, count, number, old)?;
     }
     Ok(())
 }

@@ -96,7 +96,7 @@ fn check_changes<M: ChangeableMap>(rt: &impl Abort, map: &mut M) -> Result<(), F
     check_frames(rt, map, [None, None, None])?;
     for (process, page, to, frames) in CHANGES {
         check_change(rt, map, process, page, to);
-        check_frames(rt, map, frames).note(format_args!("change of {process}, {page}"))?;
+        check_frames(rt, map, frames)?;
     }
     check_look_up(rt, map, 2, 47, 503);
     Ok(())

@@ -1,3 +1,5 @@
+#![tactic(auto)]
+
 pub mod claim;
 pub mod count;
 pub mod finish;

@@ -1,5 +1,6 @@
 ghost use Rattle.replacement.specs.Around.{advanced, next_around};
 ghost use Rattle.std.proofs.Common.{rules};
+ghost use Rattle.replacement.specs.Turns.{next_lawful};
 
 use crate::candidates::first_asked;
 use crate::rule::{Rule, WAYS, WaySet};
@@ -16,6 +17,8 @@ impl Rule for FirstIn {
     ghost loaded = { λ _ _ x. advanced x };
 
     ghost choice = { λ _ w ws. next_around w ws };
+
+    ghost chosen = { λ _ w ws i n e. next_lawful w ws i n e };
 
     ghost none = { Prim.search rules };
 

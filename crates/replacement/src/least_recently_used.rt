@@ -1,6 +1,7 @@
 ghost use Rattle.std.specs.Prelude.{◌≡◌, reverse};
 ghost use Rattle.replacement.specs.Recent.{numbers, oldest, renewed};
 ghost use Rattle.std.proofs.Common.{rules};
+ghost use Rattle.replacement.specs.Choices.{oldest_lawful};
 
 use crate::candidates::first_asked;
 use crate::rule::{Rule, WAYS, WaySet};
@@ -46,6 +47,8 @@ impl Rule for LeastRecentlyUsed {
     ghost loaded = { λ _ w x. renewed w x };
 
     ghost choice = { λ _ w ws. oldest w ws };
+
+    ghost chosen = { λ _ w ws i n e. oldest_lawful w ws i n e };
 
     ghost none = { Prim.search rules };
 

@@ -1,3 +1,5 @@
+#![tactic(auto)]
+
 mod candidates;
 pub mod first_in;
 pub mod least_recently_used;

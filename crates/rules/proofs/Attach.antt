@@ -1,26 +1,23 @@
 -- Steps 3 to 5 at one processor: the line that a reference lands on.
-use Rattle.std.proofs.Common.{◌≡◌, ℕ, zero, suc, ◌+◌, ◌%◌, ◌<◌, ◌≤◌, Bool, true, false, ◌||◌, eqb, ltb, List, [], ◌∷◌, length, get_or, set, Some, None, Option, sym, refl, ap, ◌∙◌, subst, arith, eq-eqb, ne_eqb}
-use native.Mathlib.Decide.{ℕ_discrete, dec_lt}
-use borrow.Author.Tests.{clash}
-use Rattle.rules.specs.Sizes.{v_sets, v_ways, r_sets, r_ways, page_blocks}
+use Rattle.std.proofs.Common.{◌≡◌, ℕ, ◌%◌, ◌<◌, Bool, true, false, eqb, ltb, get_or, Some, None, Option, sym, refl, ap, ◌∙◌, subst, arith, eq-eqb, ne_eqb}
+use native.Mathlib.Decide.{ℕ_discrete}
+use Rattle.rules.specs.Sizes.{v_sets, v_ways, r_sets, page_blocks}
 use Rattle.tables.specs.declared.types.LineState.{LineState}
 use Rattle.tables.specs.declared.types.LineState.TheVariants.{Empty, Valid, Swapped}
-use Rattle.tables.specs.declared.types.Child.{Child}
 use Rattle.tables.specs.declared.types.Child.TheVariants.{NoChild, At}
 use Rattle.tables.specs.declared.types.Place.{Place}
 use Rattle.tables.specs.declared.types.VLine.{VLine}
-use Rattle.tables.specs.declared.types.REntry.{REntry}
 use Rattle.tables.specs.declared.types.Processor.{Processor}
 use Rattle.std.proofs.lemmas.Bool.{lt-ltb, ltb-true}
 use Rattle.replacement.specs.Sizes.{ways}
 use Rattle.rules.specs.Basic.{with_default, first_below, flags}
 use Rattle.rules.specs.Rule.{Rule, Lawful}
-use Rattle.rules.specs.Cache.{line_at, entry_at, put_line, put_entry, is_empty, is_absent, is_valid, v_way, free_line, free_line_by, free_filled, no_line, unlinked, filled, moved, retagged, v_used, v_loaded, r_used, r_loaded, with_child, vdirty_of}
-use Rattle.rules.specs.Bus.{Blocks, modified}
+use Rattle.rules.specs.Cache.{line_at, entry_at, put_line, put_entry, is_empty, is_valid, v_way, free_line, free_line_by, free_filled, no_line, unlinked, filled, moved, retagged, v_used, v_loaded, r_used, vdirty_of}
+use Rattle.rules.specs.Bus.{Blocks}
 use Rattle.rules.specs.Calls.{Attached, attach, attach_same}
-use Rattle.rules.specs.Invariant.{Filled, Present, placed, Shaped}
+use Rattle.rules.specs.Invariant.{Filled, Present, placed}
 use Rattle.rules.specs.Sound.{ProcOk}
-use Rattle.rules.proofs.Cells.{But, place_dec, nil_at, empty_filled, but_line, shaped_line, shaped_entry}
+use Rattle.rules.proofs.Cells.{nil_at, but_line, shaped_line, shaped_entry}
 use Rattle.rules.proofs.Sizes.{v_set_in, v_ways_few, v_ways_pos, choice_passes}
 use Rattle.rules.proofs.Change.{Is, is_at, is_same}
 use Rattle.rules.proofs.Ops.{present_range, filled_range, rplace_present, child_line, free_line_lem, fill, retag, move}

@@ -1,6 +1,5 @@
 -- One entry and the lines that are or were its child change: what is to be shown, and no more.
-use Rattle.std.proofs.Common.{◌≡◌, ℕ, ◌+◌, ◌%◌, ◌<◌, Bool, true, false, ◌⊎◌, List, [], ◌∷◌, Option, sym, refl, ap, ◌∙◌, subst, inl, inr, arith}
-use native.Mathlib.Decide.{ℕ_discrete}
+use Rattle.std.proofs.Common.{◌≡◌, ℕ, Bool, true, false, Option, sym, refl, ap, ◌∙◌, subst}
 use Rattle.tables.specs.declared.types.Child.{Child}
 use Rattle.tables.specs.declared.types.Child.TheVariants.{NoChild, At}
 use Rattle.tables.specs.declared.types.Place.{Place}

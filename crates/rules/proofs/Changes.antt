@@ -1,5 +1,5 @@
 -- The kinds of change: by whether the entry had a child before, and has one after.
-use Rattle.std.proofs.Common.{◌≡◌, ℕ, ◌+◌, ◌%◌, ◌<◌, Bool, true, false, List, [], ◌∷◌, Option, sym, refl, ap, ◌∙◌, subst, arith}
+use Rattle.std.proofs.Common.{◌≡◌, ℕ, Bool, true, false, Option, ap, ◌∙◌}
 use Rattle.tables.specs.declared.types.Child.{Child}
 use Rattle.tables.specs.declared.types.Child.TheVariants.{NoChild, At}
 use Rattle.tables.specs.declared.types.Place.{Place}
@@ -7,10 +7,10 @@ use Rattle.tables.specs.declared.types.VLine.{VLine}
 use Rattle.tables.specs.declared.types.REntry.{REntry}
 use Rattle.rules.specs.Cache.{is_empty, is_absent, vdirty_of}
 use Rattle.rules.specs.Bus.{Blocks}
-use Rattle.rules.specs.Invariant.{Filled, Present, placed}
-use Rattle.rules.specs.Sound.{LineOk, ChildOk, EntryOk, Sound}
-use Rattle.rules.proofs.Cells.{But, place_dec, same_place, nil_at, empty_filled}
-use Rattle.rules.proofs.Change.{Is, is_at, is_same, NewLine, Change, changed}
+use Rattle.rules.specs.Invariant.{Present, placed}
+use Rattle.rules.specs.Sound.{EntryOk, Sound}
+use Rattle.rules.proofs.Cells.{But, nil_at}
+use Rattle.rules.proofs.Change.{Is, is_at, is_same, NewLine, changed}
 
 module _ (n : ℕ) (T : ℕ → Option ℕ) (f g : Blocks) (L M : ℕ → ℕ → VLine) (E F : ℕ → ℕ → REntry) (h k : ℕ) (y : REntry)
     (S : Sound n T f L E) (void : is_absent y.state ≡ true → y.rdirty ≡ false) (m : But E F h k y)

@@ -1,15 +1,13 @@
 -- The exhibited run: its answers by computation, its past call by call.
-use Rattle.std.proofs.Common.{◌≡◌, ℕ, Bool, true, false, List, [], ◌∷◌, length, get_or, sym, refl, ◌∙◌}
-use Rattle.replacement.specs.Sizes.{ways}
+use Rattle.std.proofs.Common.{List, [], ◌∷◌, refl}
 use Rattle.rules.specs.Sizes.{v_sets, v_ways, r_sets, r_ways, page_blocks}
-use Rattle.rules.specs.Rule.{Lawful, lru}
-use Rattle.rules.specs.Calls.{Board, Rules, made}
+use Rattle.rules.specs.Calls.{Board}
 use Rattle.rules.specs.Run.{Call, perform}
-use Rattle.rules.specs.History.{History, Setup, event}
+use Rattle.rules.specs.History.{History, event}
 use Rattle.rules.specs.Laws.{Past, begun, called}
 use Rattle.rules.specs.Listing.{fresh, fresh_setup, lru_rules, no_frames, zero_blocks}
 use Rattle.rules.specs.Exhibit.{Exhibited, board_after, exhibit, history_after}
-use Rattle.replacement.proofs.Choices.{oldest_lawful}
+use Rattle.replacement.specs.Choices.{oldest_lawful}
 
 runs_on : (cs : List Call) (b : Board) (h : History) → Past lru_rules fresh_setup h b → Past lru_rules fresh_setup (history_after cs b h) (board_after cs b)
 runs_on [] b h p = p

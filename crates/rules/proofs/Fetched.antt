@@ -1,5 +1,5 @@
 -- How many blocks each processor has fetched, over each step of the rules.
-use Rattle.std.proofs.Common.{◌≡◌, ℕ, zero, suc, ◌+◌, ◌%◌, ◌<◌, Bool, true, false, eqb, List, [], ◌∷◌, ◌++◌, map, length, get_or, set, replicate, Some, None, Option, sym, refl, ap, ◌∙◌, subst, arith, length-set, get_or-set_other, get_or-set_same}
+use Rattle.std.proofs.Common.{◌≡◌, ℕ, zero, suc, ◌+◌, ◌%◌, ◌<◌, Bool, true, false, eqb, List, [], ◌∷◌, ◌++◌, map, length, get_or, set, replicate, Some, None, Option, sym, refl, ap, ◌∙◌, arith, length-set}
 use native.Mathlib.Decide.{ℕ_discrete}
 use Rattle.std.proofs.lemmas.Bool.{eq-eqb, ne_eqb}
 use Rattle.tables.specs.declared.types.LineState.{LineState}
@@ -9,20 +9,17 @@ use Rattle.tables.specs.declared.types.EntryState.TheVariants.{Absent, Private, 
 use Rattle.tables.specs.declared.types.Child.{Child}
 use Rattle.tables.specs.declared.types.Child.TheVariants.{NoChild, At}
 use Rattle.tables.specs.declared.types.REntry.{REntry}
-use Rattle.tables.specs.declared.types.VLine.{VLine}
 use Rattle.tables.specs.declared.types.Processor.{Processor}
 use Rattle.tables.specs.declared.types.Counts.{Counts}
 use Rattle.tables.specs.declared.types.Snoop.{Snoop}
 use Rattle.tables.specs.declared.types.Snoop.TheVariants.{NotHeld, Held, Supplied}
-use Rattle.tables.specs.declared.message.Message.{Message}
-use Rattle.tables.specs.declared.message.MessageKind.TheVariants.{ReadMiss, ReadModifyWrite}
 use Rattle.rules.specs.Sizes.{v_sets, r_sets, most_processors}
 use Rattle.rules.specs.Basic.{pick}
 use Rattle.rules.specs.Rule.{Rule}
-use Rattle.rules.specs.Cache.{entry_at, line_at, new_processor, with_v, r_find, v_find, free_line, free_line_by, free_child, evict, evict_by, v_way, r_way, is_absent}
-use Rattle.rules.specs.Bus.{Blocks, Passed, proc_at, no_processor, modified, clean_at, empty_at, take_by, take_skip, take_pass, seen_by, shared_by, shared_held, noted_by, read_skip, read_pass, message}
-use Rattle.rules.specs.Calls.{Board, Rules, Ref, Reached, cpu_at, upgrade_by, upgrade_sent, needs_upgrade, v_hit, r_hit, r_miss, miss_by, v_miss, reach, reach_by, attach, attach_same, block_of, frame_of, write_back_by, write_back_sent, snooped_by, fetch_kind, is_write, put_cpu, swap_page, swap_pages}
-use Rattle.rules.specs.History.{fetches_in, is_fetch}
+use Rattle.rules.specs.Cache.{entry_at, line_at, new_processor, with_v, r_find, v_find, free_line, free_line_by, free_child, evict, evict_by, v_way, r_way}
+use Rattle.rules.specs.Bus.{Passed, proc_at, no_processor, modified, clean_at, take_by, take_skip, take_pass, seen_by, shared_by, shared_held, noted_by, read_skip, read_pass, message}
+use Rattle.rules.specs.Calls.{Board, Rules, Ref, Reached, cpu_at, upgrade_by, upgrade_sent, needs_upgrade, v_hit, r_hit, r_miss, miss_by, reach, reach_by, attach, attach_same, block_of, frame_of, write_back_by, write_back_sent, snooped_by, fetch_kind, is_write, put_cpu, swap_page, swap_pages}
+use Rattle.rules.specs.History.{fetches_in}
 use Rattle.rules.proofs.Whole.{put_same, put_other}
 
 abbrev pub fetched_of : List Processor → ℕ → ℕ

@@ -1,27 +1,26 @@
 -- A reference that finds its block in its own processor.
-use Rattle.std.proofs.Common.{◌≡◌, ℕ, zero, suc, ◌+◌, ◌/◌, ◌%◌, ◌<◌, ◌≤◌, Bool, true, false, ◌||◌, List, [], ◌∷◌, length, get_or, set, Some, None, Option, sym, refl, ap, ◌∙◌, subst, arith}
+use Rattle.std.proofs.Common.{◌≡◌, ℕ, ◌%◌, ◌<◌, true, false, List, [], length, get_or, set, Some, Option, sym, refl, ap, ◌∙◌, subst, arith}
 use borrow.Author.Tests.{clash}
-use Rattle.rules.specs.Sizes.{v_sets, v_ways, r_sets, r_ways, page_blocks}
+use Rattle.rules.specs.Sizes.{v_sets, r_sets, page_blocks}
 use Rattle.tables.specs.declared.types.LineState.{LineState}
 use Rattle.tables.specs.declared.types.LineState.TheVariants.{Empty, Valid, Swapped}
-use Rattle.tables.specs.declared.types.EntryState.TheVariants.{Absent, Private, Shared}
+use Rattle.tables.specs.declared.types.EntryState.TheVariants.{Private}
 use Rattle.tables.specs.declared.types.Child.{Child}
 use Rattle.tables.specs.declared.types.Child.TheVariants.{NoChild, At}
 use Rattle.tables.specs.declared.types.Place.{Place}
 use Rattle.tables.specs.declared.types.VLine.{VLine}
-use Rattle.tables.specs.declared.types.REntry.{REntry}
 use Rattle.tables.specs.declared.types.Processor.{Processor}
-use Rattle.rules.specs.Rule.{Rule, Lawful}
+use Rattle.rules.specs.Rule.{Lawful}
 use Rattle.rules.specs.Cache.{line_at, entry_at, is_valid, is_empty, v_find, r_find, v_used}
-use Rattle.rules.specs.Bus.{Blocks, proc_at, modified}
+use Rattle.rules.specs.Bus.{Blocks, proc_at}
 use Rattle.rules.specs.Calls.{Board, Rules, Ref, Reached, Attached, cpu_at, put_cpu, upgrade_by, needs_upgrade, is_write, v_hit, r_hit, attach, physical}
-use Rattle.rules.specs.Invariant.{Filled, Present, placed}
-use Rattle.rules.specs.Sound.{ProcOk, Inv, InvOf, translate, physical_by}
+use Rattle.rules.specs.Invariant.{Present}
+use Rattle.rules.specs.Sound.{ProcOk, InvOf, translate}
 use Rattle.rules.proofs.Ops.{rplace_present}
-use Rattle.rules.proofs.Whole.{inv_same, Same, same_refl, put_same, Runs, runs_set}
+use Rattle.rules.proofs.Whole.{inv_same, same_refl, put_same, Runs, runs_set}
 use Rattle.rules.proofs.Seek.{v_found, r_found}
-use Rattle.rules.proofs.Attach.{ok_tables, AttachOk, OnLine, attach_fill, attach_at}
-use Rattle.rules.proofs.Upgrade.{UpgradeOk, upgrade_ok}
+use Rattle.rules.proofs.Attach.{ok_tables, AttachOk, attach_fill, attach_at}
+use Rattle.rules.proofs.Upgrade.{upgrade_ok}
 
 pub valid_filled : (c : LineState) → is_valid c ≡ true → is_empty c ≡ false
 valid_filled Empty e = absurd (clash e)
@@ -56,7 +55,7 @@ v_hit_ok f rs st r w I lt fd =
     let lt₁ : i < st₁.cpus = rw c.cpus lt in
     let long : i < length st₁.procs = omega (arith, c.inv.few) in
     let e : proc_at (set st₁.procs i p₂) i ≡ p₂ = put_same st₁.procs i p₂ long in
-    let el : line_at (proc_at (set st₁.procs i p₂) i) s w ≡ l = ap (λ (z : Processor). line_at z s w) e ∙ ap (λ (z : List (List VLine)). get_or (get_or z s []) w Rattle.rules.specs.Cache.pastLine) c.lines in
+    let el : line_at (proc_at (set st₁.procs i p₂) i) s w ≡ l = ap (λ (z : Processor). line_at z s w) e ∙ ap (λ (z : List (List VLine)). get_or (get_or z s []) w Rattle.rules.specs.Cache.past_line) c.lines in
     record {
       inv = inv_same st₁.cpus st₁.table f st₁.mem st₁.procs i p₂ lt₁ c.inv (ok_tables (translate st₁.table p₁.process.0) f p₁ p₂ refl refl refl (c.inv.each i lt₁)) (same_refl p₁);
       cpus = c.cpus;
@@ -76,7 +75,7 @@ module _ (f : Blocks) (rs : Rules) (law : Lawful rs.for_v) (st : Board) (r : Ref
   mine = cpu_at upgraded r.cpu
 
   abbrev reached : Attached → Reached
-  reached a = record { at = put_cpu upgraded r.cpu a.cpu; set = r.vb % v_sets; way = a.way; level = a.level; sent = Rattle.rules.specs.Calls.upgradeSent (needs_upgrade r.value (entry_at (cpu_at st r.cpu) (b % r_sets) k)) st r.cpu (b % r_sets) k }
+  reached a = record { at = put_cpu upgraded r.cpu a.cpu; set = r.vb % v_sets; way = a.way; level = a.level; sent = Rattle.rules.specs.Calls.upgrade_sent (needs_upgrade r.value (entry_at (cpu_at st r.cpu) (b % r_sets) k)) st r.cpu (b % r_sets) k }
 
   done : (a : Attached) → ((T : ℕ → Option ℕ) → ProcOk T f mine → Present (entry_at mine (b % r_sets) k) → T r.vb ≡ Some (entry_at mine (b % r_sets) k).block.0 → (entry_at mine (b % r_sets) k).child ≡ (entry_at (cpu_at st r.cpu) (b % r_sets) k).child
       → AttachOk T f mine r.vb (b % r_sets) k a) → ReachOk f st r (reached a)

@@ -1,11 +1,11 @@
 -- The latest word at each physical word, computed from a history, stands in the relation of the laws.
-use Rattle.std.proofs.Common.{◌≡◌, ℕ, ◌+◌, ◌*◌, ◌/◌, ◌%◌, ◌<◌, Bool, true, false, eqb, List, [], ◌∷◌, ◌++◌, get_or, Some, None, Option, sym, refl, ap, ◌∙◌, subst, arith}
+use Rattle.std.proofs.Common.{◌≡◌, ℕ, ◌/◌, ◌%◌, Bool, true, false, eqb, List, [], ◌∷◌, get_or, Some, None, Option, sym, refl, ap, ◌∙◌, subst, arith}
 use Rattle.std.proofs.lemmas.List.{append-nil}
 use Rattle.std.proofs.lemmas.Bool.{eqb-true, eqb-false}
 use Rattle.base.specs.Sizes.{block_words}
 use Rattle.rules.specs.Basic.{pick}
 use Rattle.rules.specs.Calls.{Answer}
-use Rattle.rules.specs.History.{Event, Read, Wrote, Switched, Entered, Erased, DeviceHadRead, DeviceWrote, Nothing, History, Latest, written, at_setup, Setup, Stores, Untouched, first_word, physical_block, word_in}
+use Rattle.rules.specs.History.{Event, Read, Wrote, Switched, Entered, Erased, DeviceHadRead, DeviceWrote, Nothing, History, Latest, written, at_setup, Setup, Stores, first_word, physical_block, word_in}
 
 some_same : (o : Option ℕ) (b c : ℕ) → o ≡ Some b → o ≡ Some c → b ≡ c
 some_same o b c d e = cc

@@ -1,26 +1,23 @@
 -- Step 6: a block is fetched over the bus.
-use Rattle.std.proofs.Common.{◌≡◌, ℕ, zero, suc, ◌+◌, ◌/◌, ◌%◌, ◌<◌, ◌≤◌, Bool, true, false, ◌||◌, List, [], ◌∷◌, ◌++◌, length, get_or, set, Some, None, Option, sym, refl, ap, ◌∙◌, subst, arith, set-set}
+use Rattle.std.proofs.Common.{◌≡◌, ℕ, ◌%◌, ◌<◌, Bool, true, false, List, [], length, get_or, set, Some, None, Option, sym, refl, ap, ◌∙◌, subst, arith, set-set}
 use native.Mathlib.Decide.{ℕ_discrete, dec_lt}
 use borrow.Author.Tests.{clash}
 use Rattle.rules.specs.Sizes.{v_sets, v_ways, r_sets, r_ways, page_blocks}
-use Rattle.tables.specs.declared.types.LineState.TheVariants.{Empty, Valid, Swapped}
-use Rattle.tables.specs.declared.types.EntryState.{EntryState}
-use Rattle.tables.specs.declared.types.EntryState.TheVariants.{Absent, Private, Shared}
-use Rattle.tables.specs.declared.types.Child.{Child}
-use Rattle.tables.specs.declared.types.Child.TheVariants.{NoChild, At}
-use Rattle.tables.specs.declared.types.Place.{Place}
+use Rattle.tables.specs.declared.types.LineState.TheVariants.{Valid}
+use Rattle.tables.specs.declared.types.EntryState.TheVariants.{Private, Shared}
+use Rattle.tables.specs.declared.types.Child.TheVariants.{NoChild}
 use Rattle.tables.specs.declared.types.VLine.{VLine}
 use Rattle.tables.specs.declared.types.REntry.{REntry}
 use Rattle.tables.specs.declared.types.Processor.{Processor}
-use Rattle.rules.specs.Rule.{Rule, Lawful}
+use Rattle.rules.specs.Rule.{Lawful}
 use Rattle.rules.specs.Cache.{line_at, entry_at, put_entry, is_valid, is_empty, is_absent, r_find, v_way, r_way, free_line, free_child, evict, filled, with_counts, count_fetched, v_loaded, r_loaded}
 use Rattle.rules.specs.Bus.{memory, Blocks, put_block, proc_at, modified, read_pass, take_pass, Passed}
-use Rattle.rules.specs.Calls.{Board, Rules, Ref, Reached, cpu_at, put_cpu, is_write, r_miss, write_back_by, snooped_by, fetch_state, with_procs, with_mem}
-use Rattle.rules.specs.Invariant.{Filled, Present, placed}
+use Rattle.rules.specs.Calls.{Board, Rules, Ref, cpu_at, put_cpu, is_write, r_miss, write_back_by, snooped_by, fetch_state}
+use Rattle.rules.specs.Invariant.{Present, placed}
 use Rattle.rules.specs.Sound.{ProcOk, Inv, InvOf, Clean, Lacks, translate}
 use Rattle.rules.proofs.Cells.{But, place_dec, empty_filled, but_line, but_entry}
 use Rattle.rules.proofs.Ops.{free_line_lem, fetch, fill}
-use Rattle.rules.proofs.Whole.{inv_set, inv_sub, inv_same, Same, Sub, Kept, same_sub, same_clean, same_trans, put_same, Runs, runs_set}
+use Rattle.rules.proofs.Whole.{inv_set, inv_sub, inv_same, Same, Sub, same_sub, same_clean, same_trans, put_same, Runs, runs_set}
 use Rattle.rules.proofs.Steps.{go_same, fill_same}
 use Rattle.rules.proofs.Seek.{r_lacks}
 use Rattle.rules.proofs.Attach.{ok_tables, v_way_range, free_line_empty, free_line_process}
@@ -204,7 +201,7 @@ module _ (f : Blocks) (rs : Rules) (lawV : Lawful rs.for_v) (lawR : Lawful rs.fo
   sub a c pr = let x = ev.sub a c pr in let y = same_sub p p₂ same₂ a c x.here in record { here = y.here; block = x.block ∙ y.block; priv = λ z. y.priv (x.priv z) }
 
   empty : is_empty (line_at p_e s u).state ≡ true
-  empty = ap (λ (z : List (List VLine)). is_empty (get_or (get_or z s []) u Rattle.rules.specs.Cache.pastLine).state) ev.lines ∙ fr.still s u (free_line_empty T f p (I.each i lt) s u ls lu)
+  empty = ap (λ (z : List (List VLine)). is_empty (get_or (get_or z s []) u Rattle.rules.specs.Cache.past_line).state) ev.lines ∙ fr.still s u (free_line_empty T f p (I.each i lt) s u ls lu)
 
   lacks : Lacks p_e b
   lacks a c pr eb = let x = sub a c pr in r_lacks T f p b (I.each i lt) no-b a c x.here (sym x.block ∙ eb)

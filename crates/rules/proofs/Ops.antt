@@ -1,12 +1,12 @@
 -- What the rules do to one processor keeps it sound.
-use Rattle.std.proofs.Common.{◌≡◌, ℕ, ◌+◌, ◌*◌, ◌%◌, ◌<◌, ◌≤◌, Bool, true, false, ◌||◌, List, [], ◌∷◌, length, get_or, set, Some, None, Option, sym, refl, ap, ◌∙◌, subst, arith}
-use native.Mathlib.Decide.{ℕ_discrete, dec_lt}
+use Rattle.std.proofs.Common.{◌≡◌, ℕ, ◌+◌, ◌%◌, ◌<◌, Bool, true, false, ◌||◌, length, set, Some, Option, sym, refl, ap, ◌∙◌, subst, arith}
+use native.Mathlib.Decide.{dec_lt}
 use borrow.Author.Tests.{clash}
 use Rattle.rules.specs.Sizes.{v_sets, v_ways, r_sets, r_ways, page_blocks}
 use Rattle.tables.specs.declared.types.LineState.{LineState}
 use Rattle.tables.specs.declared.types.LineState.TheVariants.{Empty, Valid, Swapped}
 use Rattle.tables.specs.declared.types.EntryState.{EntryState}
-use Rattle.tables.specs.declared.types.EntryState.TheVariants.{Absent, Private, Shared}
+use Rattle.tables.specs.declared.types.EntryState.TheVariants.{Private, Shared}
 use Rattle.tables.specs.declared.types.Child.{Child}
 use Rattle.tables.specs.declared.types.Child.TheVariants.{NoChild, At}
 use Rattle.tables.specs.declared.types.Place.{Place}
@@ -15,12 +15,12 @@ use Rattle.tables.specs.declared.types.REntry.{REntry}
 use Rattle.tables.specs.declared.types.Counts.{Counts}
 use Rattle.tables.specs.declared.types.Processor.{Processor}
 use Rattle.rules.specs.Basic.{pick}
-use Rattle.rules.specs.Cache.{line_at, entry_at, put_line, put_entry, is_empty, is_absent, is_valid, vdirty_of, unlinked, no_line, no_entry, past_line, past_entry, free_line, free_line_by, free_filled, with_counts, with_state, with_child, retagged, moved, filled, stored, marked_dirty}
+use Rattle.rules.specs.Cache.{line_at, entry_at, put_line, put_entry, is_empty, is_absent, vdirty_of, unlinked, no_line, no_entry, past_line, past_entry, free_line, free_line_by, free_filled, with_counts, with_state, with_child, retagged, moved, filled, stored, marked_dirty}
 use Rattle.rules.specs.Bus.{Blocks, modified, current, child_words, supplied, clean_at, empty_at, clean_line, clean_child}
-use Rattle.rules.specs.Invariant.{Filled, Present, placed, Shaped, resident, one}
-use Rattle.rules.specs.Sound.{LineOk, ChildOk, EntryOk, Sound, ProcOk}
-use Rattle.rules.proofs.Cells.{But, place_dec, same_place, nil_at, empty_filled, but_line, but_entry, shaped_line, shaped_entry, cell_past, resident_put}
-use Rattle.rules.proofs.Change.{Is, is_at, is_same, NewLine}
+use Rattle.rules.specs.Invariant.{Filled, Present, placed, resident, one}
+use Rattle.rules.specs.Sound.{LineOk, EntryOk, Sound, ProcOk}
+use Rattle.rules.proofs.Cells.{empty_filled, but_line, but_entry, shaped_line, shaped_entry, cell_past, resident_put}
+use Rattle.rules.proofs.Change.{NewLine}
 use Rattle.rules.proofs.Changes.{change_nil, change_cut, change_keep, change_tie, change_move}
 
 module _ (T : ℕ → Option ℕ) (f : Blocks) (p : Processor) (O : ProcOk T f p) where

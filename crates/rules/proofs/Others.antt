@@ -1,28 +1,27 @@
 -- Switches, remapping, the device and a new machine.
-use Rattle.std.proofs.Common.{◌≡◌, ℕ, zero, suc, ◌+◌, ◌/◌, ◌%◌, ◌<◌, ◌≤◌, Bool, true, false, ◌||◌, eqb, ◌⊎◌, List, [], ◌∷◌, map, length, get_or, set, replicate, Some, None, Option, sym, refl, ap, ◌∙◌, subst, inl, inr, arith, eq-eqb, ne_eqb}
+use Rattle.std.proofs.Common.{◌≡◌, ℕ, zero, suc, ◌+◌, ◌/◌, ◌%◌, ◌<◌, ◌≤◌, Bool, true, false, eqb, List, [], map, length, get_or, set, replicate, Some, Option, sym, refl, ap, ◌∙◌, subst, inl, inr, arith, eq-eqb, ne_eqb}
 use native.Mathlib.Decide.{ℕ_discrete, dec_lt}
 use borrow.Author.Tests.{clash}
 use lib.ListN.{length-map, length-replicate, get_or-map}
 use Rattle.rules.specs.Sizes.{v_sets, v_ways, r_sets, r_ways, page_blocks, most_processors}
 use Rattle.tables.specs.declared.types.LineState.{LineState}
 use Rattle.tables.specs.declared.types.LineState.TheVariants.{Empty, Valid, Swapped}
-use Rattle.tables.specs.declared.types.EntryState.TheVariants.{Absent, Private, Shared}
 use Rattle.tables.specs.declared.types.Child.{Child}
 use Rattle.tables.specs.declared.types.Child.TheVariants.{NoChild, At}
 use Rattle.tables.specs.declared.types.Place.{Place}
 use Rattle.tables.specs.declared.types.VLine.{VLine}
 use Rattle.tables.specs.declared.types.REntry.{REntry}
 use Rattle.tables.specs.declared.types.Processor.{Processor}
-use Rattle.rules.specs.Basic.{pick, both}
+use Rattle.rules.specs.Basic.{pick}
 use Rattle.rules.specs.Rule.{Rule}
 use Rattle.rules.specs.Cache.{line_at, entry_at, is_valid, is_empty, is_absent, swap_all, swap_line, swap_state, with_v, new_processor, past_line, past_entry, no_line, no_entry}
-use Rattle.rules.specs.Bus.{device, memory, Blocks, put_block, proc_at, modified, no_processor, read_pass, take_pass, Passed}
-use Rattle.rules.specs.Calls.{Board, Rules, cpu_at, counted, swap_page, swap_pages, put_frame, physical}
-use Rattle.rules.specs.Invariant.{Filled, Present, placed, Shaped, Rows, in_row, resident}
-use Rattle.rules.specs.Sound.{LineOk, ChildOk, EntryOk, Sound, ProcOk, Inv, InvOf, Clean, Lacks, translate, physical_by}
-use Rattle.rules.proofs.Cells.{place_dec, empty_filled, nil_at, cell_map, rows_map, rows, cell_copies, at_copies}
-use Rattle.rules.proofs.Whole.{inv_same, same_refl, proc_reads, put_same}
-use Rattle.rules.proofs.Passes.{SharedIn, read_pass_lem, take_pass_lem, Taken, Snooped, put_here, put_else}
+use Rattle.rules.specs.Bus.{device, memory, Blocks, put_block, proc_at, no_processor, read_pass, take_pass, Passed}
+use Rattle.rules.specs.Calls.{Board, cpu_at, swap_page, swap_pages, put_frame}
+use Rattle.rules.specs.Invariant.{placed, in_row, resident}
+use Rattle.rules.specs.Sound.{LineOk, Sound, ProcOk, Inv, InvOf, Clean, Lacks, translate, physical_by}
+use Rattle.rules.proofs.Cells.{empty_filled, nil_at, cell_map, rows_map, rows, cell_copies, at_copies}
+use Rattle.rules.proofs.Whole.{inv_same, same_refl, proc_reads}
+use Rattle.rules.proofs.Passes.{read_pass_lem, take_pass_lem, Taken, put_here, put_else}
 use Rattle.rules.proofs.Upgrade.{up_to_date}
 
 -- each line dimmed: as it was, but perhaps no longer valid

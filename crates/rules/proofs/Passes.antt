@@ -1,25 +1,22 @@
 -- A message's pass over the processors keeps the invariant.
-use Rattle.std.proofs.Common.{◌≡◌, ℕ, zero, suc, ◌+◌, ◌%◌, ◌<◌, ◌≤◌, Bool, true, false, ◌||◌, eqb, List, [], ◌∷◌, length, get_or, set, Some, None, Option, sym, refl, ap, ◌∙◌, subst, arith, eq-eqb, ne_eqb}
-use native.Mathlib.Decide.{ℕ_discrete, dec_lt}
+use Rattle.std.proofs.Common.{◌≡◌, ℕ, zero, suc, ◌%◌, ◌<◌, ◌≤◌, Bool, true, false, eqb, List, length, set, Some, None, Option, sym, refl, ap, ◌∙◌, subst, arith, eq-eqb, ne_eqb}
+use native.Mathlib.Decide.{ℕ_discrete}
 use borrow.Author.Tests.{clash}
-use Rattle.rules.specs.Sizes.{v_sets, v_ways, r_sets, r_ways, page_blocks}
+use Rattle.rules.specs.Sizes.{r_sets}
 use Rattle.tables.specs.declared.types.EntryState.{EntryState}
-use Rattle.tables.specs.declared.types.EntryState.TheVariants.{Absent, Private, Shared}
+use Rattle.tables.specs.declared.types.EntryState.TheVariants.{Private, Shared}
 use Rattle.tables.specs.declared.types.Child.{Child}
 use Rattle.tables.specs.declared.types.Child.TheVariants.{NoChild, At}
-use Rattle.tables.specs.declared.types.Snoop.{Snoop}
-use Rattle.tables.specs.declared.types.Snoop.TheVariants.{NotHeld, Held, Supplied}
 use Rattle.tables.specs.declared.types.REntry.{REntry}
 use Rattle.tables.specs.declared.types.Counts.{Counts}
 use Rattle.tables.specs.declared.types.Processor.{Processor}
-use Rattle.rules.specs.Basic.{pick}
-use Rattle.rules.specs.Cache.{entry_at, put_entry, is_absent, no_entry, r_find, with_counts, with_state, count_invalidated}
+use Rattle.rules.specs.Cache.{entry_at, put_entry, no_entry, r_find, with_counts, with_state, count_invalidated}
 use Rattle.rules.specs.Bus.{Blocks, put_block, proc_at, modified, current, supplied, empty_at, clean_at, take_by, take_skip, take_pass, seen_by, seen_held, shared_by, shared_held, noted_by, read_skip, read_pass, Passed}
 use Rattle.rules.specs.Invariant.{Present}
 use Rattle.rules.specs.Sound.{ProcOk, Inv, Clean, Lacks, translate}
 use Rattle.rules.proofs.Cells.{But, place_dec}
 use Rattle.rules.proofs.Ops.{take, reshare, supply, current_is}
-use Rattle.rules.proofs.Whole.{inv_sub, inv_same, Sub, Kept, same_refl, put_same, put_other, Runs, runs_set}
+use Rattle.rules.proofs.Whole.{inv_sub, inv_same, Kept, same_refl, put_same, put_other, Runs, runs_set}
 use Rattle.rules.proofs.Steps.{but_present, sub_but, clean_but, only_but}
 use Rattle.rules.proofs.Seek.{r_found, r_lacks}
 

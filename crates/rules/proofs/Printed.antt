@@ -8,7 +8,7 @@ use Rattle.lines.specs.declared.line.Line.{Line}
 use Rattle.records.specs.declared.record.Record.{Record}
 use Rattle.records.specs.declared.record.Record.TheVariants.{Read, Write, Switch, Enter, Erase, DeviceRead, DeviceWrite}
 use Rattle.records.specs.declared.fault.FormatFault.{FormatFault}
-use Rattle.replacement.proofs.Choices.{oldest_lawful}
+use Rattle.replacement.specs.Choices.{oldest_lawful}
 use Rattle.rules.specs.Sizes.{most_processors}
 use Rattle.rules.specs.Basic.{pick}
 use Rattle.rules.specs.Rule.{Lawful, lru}

@@ -1,21 +1,18 @@
 -- A reference, accepted: a read answers what its block reads as, and a write changes that at one word.
-use Rattle.std.proofs.Common.{◌≡◌, ℕ, zero, suc, ◌+◌, ◌/◌, ◌%◌, ◌<◌, ◌≤◌, Bool, true, false, ◌||◌, leb, List, [], ◌∷◌, length, get_or, set, Some, None, Option, sym, refl, ap, ◌∙◌, subst, arith, leb-false}
-use native.Mathlib.Decide.{ℕ_discrete, dec_lt}
+use Rattle.std.proofs.Common.{◌≡◌, ℕ, ◌<◌, Bool, true, false, ◌||◌, set, Some, None, Option, sym, refl, ap, ◌∙◌, subst}
+use native.Mathlib.Decide.{ℕ_discrete}
 use borrow.Author.Tests.{clash}
-use Rattle.rules.specs.Sizes.{v_sets, v_ways, r_sets, r_ways, page_blocks}
-use Rattle.tables.specs.declared.types.EntryState.TheVariants.{Absent, Private, Shared}
-use Rattle.tables.specs.declared.types.Child.{Child}
-use Rattle.tables.specs.declared.types.Child.TheVariants.{NoChild, At}
+use Rattle.tables.specs.declared.types.EntryState.TheVariants.{Private}
 use Rattle.tables.specs.declared.types.VLine.{VLine}
 use Rattle.tables.specs.declared.types.REntry.{REntry}
 use Rattle.tables.specs.declared.types.Processor.{Processor}
-use Rattle.rules.specs.Rule.{Rule, Lawful}
-use Rattle.rules.specs.Cache.{line_at, entry_at, put_entry, is_valid, v_find, r_find, stored, with_child, marked_dirty}
+use Rattle.rules.specs.Rule.{Lawful}
+use Rattle.rules.specs.Cache.{line_at, entry_at, v_find, r_find, stored, with_child, marked_dirty}
 use Rattle.rules.specs.Bus.{Blocks, put_block, proc_at, modified}
-use Rattle.rules.specs.Calls.{Board, Rules, Ref, Reached, Step, cpu_at, counted, is_write, reach, reach_by, v_miss, miss_by, block_of, frame_of, completed, physical, ref_number, v_number, frame_number, or_next, or_else, full_number, reference, refer, make_ref}
-use Rattle.rules.specs.Invariant.{Filled, Present, placed}
-use Rattle.rules.specs.Sound.{ProcOk, Inv, InvOf, Clean, Lacks, translate, physical_by}
-use Rattle.rules.proofs.Cells.{But, place_dec}
+use Rattle.rules.specs.Calls.{Board, Rules, Ref, Reached, cpu_at, is_write, reach, reach_by, v_miss, miss_by, frame_of, physical}
+use Rattle.rules.specs.Invariant.{Filled, Present}
+use Rattle.rules.specs.Sound.{ProcOk, Inv, InvOf, Clean, translate, physical_by}
+use Rattle.rules.proofs.Cells.{But}
 use Rattle.rules.proofs.Ops.{rplace_present, store}
 use Rattle.rules.proofs.Whole.{inv_set, Sub}
 use Rattle.rules.proofs.Steps.{but_present, sub_but, clean_but}

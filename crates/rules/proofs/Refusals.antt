@@ -1,7 +1,7 @@
 -- A refused call leaves the board as it was.
-use Rattle.std.proofs.Common.{◌≡◌, ℕ, zero, suc, List, length, Some, None, Option, refl}
-use Rattle.rules.specs.Calls.{Board, Rules, Step, refer, ref_number, make_ref, switch_by, switch_number, remap_by, remap_number, take_bus, take_number, release_bus, release_number, device_read_by, device_write_by, device_number}
-use Rattle.rules.specs.Run.{Call, reading, writing, switching, entering, erasing, taking, releasing, device_reading, device_writing, line_reading, entry_reading, counts_reading, perform}
+use Rattle.std.proofs.Common.{◌≡◌, ℕ, zero, suc, length, Some, None, refl}
+use Rattle.rules.specs.Calls.{Board, Step, refer, ref_number, make_ref, switch_by, switch_number, remap_by, remap_number, take_bus, take_number, release_bus, release_number, device_read_by, device_write_by, device_number}
+use Rattle.rules.specs.Run.{reading, writing, switching, entering, erasing, taking, releasing, device_reading, device_writing, line_reading, entry_reading, counts_reading}
 use Rattle.rules.specs.Laws.{RefusalsChangeNothing}
 
 -- a step by its number, where 0 is accepted

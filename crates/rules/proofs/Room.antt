@@ -1,8 +1,8 @@
 -- Step 6 at one processor: a V-way and an R-way are freed.
-use Rattle.std.proofs.Common.{◌≡◌, ℕ, zero, suc, ◌+◌, ◌%◌, ◌<◌, ◌≤◌, Bool, true, false, ◌||◌, ltb, List, [], ◌∷◌, length, get_or, set, Some, None, Option, sym, refl, ap, ◌∙◌, subst, arith}
-use native.Mathlib.Decide.{ℕ_discrete, dec_lt}
+use Rattle.std.proofs.Common.{◌≡◌, ℕ, ◌<◌, Bool, true, false, ltb, get_or, Some, None, Option, sym, refl, ap, ◌∙◌, subst, arith}
+use native.Mathlib.Decide.{ℕ_discrete}
 use borrow.Author.Tests.{clash}
-use Rattle.rules.specs.Sizes.{v_sets, v_ways, r_sets, r_ways, page_blocks}
+use Rattle.rules.specs.Sizes.{r_ways}
 use Rattle.tables.specs.declared.types.LineState.{LineState}
 use Rattle.tables.specs.declared.types.LineState.TheVariants.{Empty, Valid, Swapped}
 use Rattle.tables.specs.declared.types.EntryState.{EntryState}
@@ -10,20 +10,19 @@ use Rattle.tables.specs.declared.types.EntryState.TheVariants.{Absent, Private, 
 use Rattle.tables.specs.declared.types.Child.{Child}
 use Rattle.tables.specs.declared.types.Child.TheVariants.{NoChild, At}
 use Rattle.tables.specs.declared.types.Place.{Place}
-use Rattle.tables.specs.declared.types.VLine.{VLine}
 use Rattle.tables.specs.declared.types.REntry.{REntry}
 use Rattle.tables.specs.declared.types.Processor.{Processor}
 use Rattle.std.proofs.lemmas.Bool.{lt-ltb, ltb-true}
 use Rattle.replacement.specs.Sizes.{ways}
 use Rattle.rules.specs.Basic.{both, with_default, first_below, flags}
 use Rattle.rules.specs.Rule.{Rule, Lawful}
-use Rattle.rules.specs.Cache.{line_at, entry_at, put_line, put_entry, is_empty, is_absent, v_way, r_way, r_choice, childless, free_line, free_line_by, free_filled, free_child, evict, evict_by, no_line, no_entry, unlinked, vdirty_of, with_counts, count_replaced}
+use Rattle.rules.specs.Cache.{line_at, entry_at, put_entry, is_empty, is_absent, r_way, r_choice, childless, free_line, free_line_by, free_filled, free_child, evict, evict_by, no_line, no_entry, unlinked, with_counts, count_replaced}
 use Rattle.rules.specs.Bus.{Blocks, put_block, modified}
-use Rattle.rules.specs.Invariant.{Filled, Present, placed}
+use Rattle.rules.specs.Invariant.{Filled, Present}
 use Rattle.rules.specs.Sound.{ProcOk, Clean}
-use Rattle.rules.proofs.Cells.{But, place_dec, nil_at, empty_filled, but_line, shaped_entry}
-use Rattle.rules.proofs.Ops.{present_range, filled_range, rplace_present, child_line, free_line_lem, let_filled, drop_entry}
-use Rattle.rules.proofs.Whole.{Same, Sub, same_sub, same_clean, same_refl, same_trans}
+use Rattle.rules.proofs.Cells.{But, place_dec, empty_filled, but_line, shaped_entry}
+use Rattle.rules.proofs.Ops.{present_range, filled_range, rplace_present, child_line, free_line_lem, drop_entry}
+use Rattle.rules.proofs.Whole.{Same, Sub, same_sub, same_refl}
 use Rattle.rules.proofs.Steps.{but_present, go_same, sub_but, clean_but}
 use Rattle.rules.proofs.Seek.{both_from, both_true, first_some}
 use Rattle.rules.proofs.Sizes.{r_ways_pos, r_ways_few, choice_passes}

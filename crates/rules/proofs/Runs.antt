@@ -1,31 +1,31 @@
 -- Every call keeps what holds of a board and its history, and so every run keeps the laws.
-use Rattle.std.proofs.Common.{◌≡◌, ℕ, zero, suc, ◌+◌, ◌*◌, ◌/◌, ◌%◌, ◌<◌, ◌≤◌, Bool, true, false, ◌||◌, eqb, ltb, leb, List, [], ◌∷◌, ◌++◌, length, get_or, set, Some, None, Option, sym, refl, ap, ◌∙◌, subst, arith, length-set, get_or-set_other, get_or-set_same, eq-eqb, ne_eqb, leb-false}
+use Rattle.std.proofs.Common.{◌≡◌, ℕ, zero, suc, ◌+◌, ◌/◌, ◌%◌, ◌<◌, ◌≤◌, Bool, true, false, ◌||◌, eqb, ltb, leb, List, [], ◌∷◌, ◌++◌, length, get_or, set, Some, None, Option, sym, refl, ap, ◌∙◌, subst, arith, length-set, get_or-set_other, get_or-set_same, eq-eqb, ne_eqb, leb-false}
 use native.Mathlib.Decide.{ℕ_discrete, dec_lt}
 use borrow.Author.Tests.{clash}
 use Rattle.std.proofs.lemmas.Bool.{ltb-false, eqb-true}
 use Rattle.base.specs.Sizes.{addresses, block_words, frames, pages, processes}
 use Rattle.tables.specs.declared.types.Processor.{Processor}
-use Rattle.tables.specs.declared.types.Child.TheVariants.{NoChild, At}
+use Rattle.tables.specs.declared.types.Child.TheVariants.{At}
 use Rattle.rules.specs.Sizes.{most_accepted, most_processors, page_blocks}
-use Rattle.rules.specs.Basic.{pick, both}
+use Rattle.rules.specs.Basic.{pick}
 use Rattle.rules.specs.Rule.{Lawful}
 use Rattle.rules.specs.Cache.{v_find, line_at, entry_at, stored, swap_all, is_absent}
 use Rattle.rules.specs.Bus.{Blocks, Passed, device, memory, put_block, proc_at, read_pass, modified}
-use Rattle.rules.specs.Calls.{Board, Rules, Step, Answer, Ref, Reached, cpu_at, made, reference, refer, make_ref, ref_number, v_number, frame_number, frame_of, completed, reach, full_number, or_next, or_else, device_read_by, device_number, device_write_by, switch_by, switch_number, remap_by, remap_number, counted, put_frame, setup_number, take_number, take_bus, release_number, release_bus, tenured, told, line_number, entry_number, counts_number}
+use Rattle.rules.specs.Calls.{Board, Rules, Answer, Ref, cpu_at, made, reference, refer, make_ref, ref_number, v_number, frame_number, frame_of, reach, full_number, or_next, or_else, device_read_by, device_number, device_write_by, switch_by, switch_number, remap_by, remap_number, put_frame, setup_number, take_number, take_bus, release_number, release_bus, tenured, told, line_number, entry_number, counts_number}
 use Rattle.rules.specs.Run.{Call, reading, writing, switching, entering, erasing, taking, releasing, device_reading, device_writing, line_reading, entry_reading, counts_reading, perform}
 use Rattle.rules.specs.Sound.{ProcOk, Inv, InvOf, translate}
-use Rattle.rules.specs.Invariant.{Filled, Present, placed}
-use Rattle.rules.specs.History.{Event, Read, Wrote, Switched, Entered, Erased, DeviceHadRead, DeviceWrote, Nothing, History, Latest, Setup, event, event_by, accepted, fetched_in, fetches_in, first_word, physical_block, process_at, table_at, word_in}
-use Rattle.rules.specs.Laws.{Past, begun, called, Laws, ReadsLatest, WritesPlaced, DeviceReadsLatest, Tied, Balanced, LawsOfRuns, ReadsAnswerLatestWrites, CachesPointAtEachOther, ModifiedBlocksHeldOnce, FetchedBlocksAccounted}
-use Rattle.rules.proofs.Passes.{put_here, put_else, read_pass_lem, take_pass_lem, Snooped}
+use Rattle.rules.specs.Invariant.{Present, placed}
+use Rattle.rules.specs.History.{Event, Read, Wrote, Switched, Entered, Erased, DeviceHadRead, DeviceWrote, Nothing, History, Latest, Setup, event, accepted, fetched_in, fetches_in, physical_block, process_at, table_at, word_in}
+use Rattle.rules.specs.Laws.{Past, begun, called, Laws, Tied, LawsOfRuns, ReadsAnswerLatestWrites, CachesPointAtEachOther, ModifiedBlocksHeldOnce, FetchedBlocksAccounted}
+use Rattle.rules.proofs.Passes.{put_here, put_else, read_pass_lem}
 use Rattle.rules.proofs.Cells.{same_place, empty_filled}
 use Rattle.rules.proofs.Ops.{unique, rplace_present}
-use Rattle.rules.proofs.Whole.{Runs, runs_set, put_same, put_other}
+use Rattle.rules.proofs.Whole.{runs_set, put_same, put_other}
 use Rattle.rules.proofs.Hits.{ReachOk}
 use Rattle.rules.proofs.Refs.{reach_ok, reached_block, reached_words, write_inv}
 use Rattle.rules.proofs.Others.{switch_inv, remap_inv, remap_runs, device_read_lem, device_write_lem, device_runs, new_inv, new_process}
 use Rattle.rules.proofs.Latest.{latest, stored_at, word_at}
-use Rattle.rules.proofs.Fetched.{fetched_of, Level, Fetches, reach_fetches, read_level, set_level, take_level, remap_level, new_fetched}
+use Rattle.rules.proofs.Fetched.{fetched_of, Fetches, reach_fetches, read_level, set_level, take_level, remap_level, new_fetched}
 
 none_more : (n : ℕ) → n ≡ 0 + n
 none_more n = omega arith

@@ -1,15 +1,15 @@
 -- What the searches find.
-use Rattle.std.proofs.Common.{◌≡◌, ℕ, zero, suc, ◌+◌, ◌%◌, ◌<◌, ◌≤◌, Bool, true, false, not, eqb, Some, None, Option, sym, refl, ap, ◌∙◌, subst, arith, eqb→eq, eq-eqb, ne_eqb}
+use Rattle.std.proofs.Common.{◌≡◌, ℕ, zero, suc, ◌%◌, ◌<◌, Bool, true, false, not, eqb, Some, None, Option, sym, refl, ap, ◌∙◌, subst, arith, eq-eqb, ne_eqb}
 use native.Mathlib.Decide.{ℕ_discrete, dec_lt}
 use borrow.Author.Tests.{clash}
-use Rattle.rules.specs.Sizes.{v_sets, v_ways, r_sets, r_ways, page_blocks}
+use Rattle.rules.specs.Sizes.{v_sets, v_ways, r_sets, r_ways}
 use Rattle.tables.specs.declared.types.VLine.{VLine}
 use Rattle.tables.specs.declared.types.REntry.{REntry}
 use Rattle.tables.specs.declared.types.Processor.{Processor}
 use Rattle.rules.specs.Basic.{first_below, or_at, both}
-use Rattle.rules.specs.Cache.{line_at, entry_at, is_empty, is_absent, is_valid, holds, r_find, hits, v_find}
+use Rattle.rules.specs.Cache.{line_at, entry_at, is_absent, is_valid, holds, r_find, hits, v_find}
 use Rattle.rules.specs.Bus.{Blocks}
-use Rattle.rules.specs.Invariant.{Filled, Present}
+use Rattle.rules.specs.Invariant.{Present}
 use Rattle.rules.specs.Sound.{ProcOk, Lacks}
 use Rattle.rules.proofs.Ops.{present_range}
 

@@ -1,23 +1,15 @@
 -- What one processor's changes mean to the others: which entries stay, and which are clean.
-use Rattle.std.proofs.Common.{◌≡◌, ℕ, ◌+◌, ◌%◌, ◌<◌, ◌≤◌, Bool, true, false, ◌||◌, Some, None, Option, sym, refl, ap, ◌∙◌, subst, arith}
-use native.Mathlib.Decide.{ℕ_discrete}
-use borrow.Author.Tests.{clash}
+use Rattle.std.proofs.Common.{◌≡◌, ℕ, Bool, true, false, ◌||◌, Option, refl}
 use Rattle.tables.specs.declared.types.LineState.{LineState}
 use Rattle.tables.specs.declared.types.LineState.TheVariants.{Empty, Valid, Swapped}
-use Rattle.tables.specs.declared.types.EntryState.{EntryState}
-use Rattle.tables.specs.declared.types.EntryState.TheVariants.{Absent, Private, Shared}
-use Rattle.tables.specs.declared.types.Child.{Child}
 use Rattle.tables.specs.declared.types.Child.TheVariants.{NoChild, At}
-use Rattle.tables.specs.declared.types.Place.{Place}
-use Rattle.tables.specs.declared.types.VLine.{VLine}
 use Rattle.tables.specs.declared.types.REntry.{REntry}
-use Rattle.tables.specs.declared.types.Counts.{Counts}
 use Rattle.tables.specs.declared.types.Processor.{Processor}
-use Rattle.rules.specs.Cache.{line_at, entry_at, put_line, put_entry, is_empty, is_absent, vdirty_of, unlinked, no_entry, free_line, free_line_by, free_filled, with_counts, with_state, with_child, moved, filled}
-use Rattle.rules.specs.Bus.{Blocks, modified, supplied, empty_at, clean_at}
+use Rattle.rules.specs.Cache.{line_at, entry_at, put_entry, vdirty_of, unlinked, free_line, free_line_by, free_filled, with_child, moved, filled}
+use Rattle.rules.specs.Bus.{Blocks, modified}
 use Rattle.rules.specs.Invariant.{Filled, Present, placed}
-use Rattle.rules.specs.Sound.{ProcOk, Clean, Lacks}
-use Rattle.rules.proofs.Cells.{But, place_dec, empty_filled, but_entry}
+use Rattle.rules.specs.Sound.{ProcOk, Clean}
+use Rattle.rules.proofs.Cells.{But, place_dec, but_entry}
 use Rattle.rules.proofs.Ops.{present_range, rplace_present, unique}
 use Rattle.rules.proofs.Whole.{Kept, Sub, Alike, Same, same_refl}
 

@@ -1,5 +1,5 @@
 -- A write's upgrade: the others drop the block, and the entry becomes private.
-use Rattle.std.proofs.Common.{◌≡◌, ℕ, zero, suc, ◌+◌, ◌%◌, ◌<◌, ◌≤◌, Bool, true, false, ◌||◌, List, [], ◌∷◌, length, get_or, set, Some, None, Option, sym, refl, ap, ◌∙◌, subst, arith}
+use Rattle.std.proofs.Common.{◌≡◌, ℕ, ◌<◌, Bool, true, false, List, length, set, Some, None, Option, sym, refl, ap, ◌∙◌, subst, arith}
 use native.Mathlib.Decide.{ℕ_discrete, dec_lt}
 use borrow.Author.Tests.{clash}
 use Rattle.tables.specs.declared.types.EntryState.{EntryState}
@@ -7,14 +7,14 @@ use Rattle.tables.specs.declared.types.EntryState.TheVariants.{Absent, Private, 
 use Rattle.tables.specs.declared.types.REntry.{REntry}
 use Rattle.tables.specs.declared.types.Processor.{Processor}
 use Rattle.rules.specs.Basic.{both}
-use Rattle.rules.specs.Cache.{line_at, entry_at, put_entry, is_absent, is_shared, with_state}
+use Rattle.rules.specs.Cache.{entry_at, put_entry, is_absent, is_shared, with_state}
 use Rattle.rules.specs.Bus.{Blocks, proc_at, modified, take_pass}
 use Rattle.rules.specs.Calls.{Board, cpu_at, upgrade_by, needs_upgrade, is_write}
 use Rattle.rules.specs.Invariant.{Present}
 use Rattle.rules.specs.Sound.{ProcOk, Inv, Clean, Lacks, translate, InvOf}
 use Rattle.rules.proofs.Cells.{But, place_dec, empty_filled}
-use Rattle.rules.proofs.Ops.{present_range, reshare, unique}
-use Rattle.rules.proofs.Whole.{inv_set, put_same, put_other, Runs, runs_set}
+use Rattle.rules.proofs.Ops.{reshare, unique}
+use Rattle.rules.proofs.Whole.{inv_set, put_same, Runs, runs_set}
 use Rattle.rules.proofs.Steps.{but_present}
 use Rattle.rules.proofs.Passes.{SharedIn, take_pass_lem, Taken}
 

@@ -1,19 +1,15 @@
 -- One processor is put for another, or what memory or the blocks read as changes.
-use Rattle.std.proofs.Common.{◌≡◌, ℕ, ◌+◌, ◌*◌, ◌%◌, ◌<◌, ◌≤◌, Bool, true, false, ◌||◌, List, [], ◌∷◌, length, get_or, set, Some, None, Option, sym, refl, ap, ◌∙◌, subst, arith, length-set, get_or-set_other, get_or-set_same}
-use native.Mathlib.Decide.{ℕ_discrete, dec_lt}
-use borrow.Author.Tests.{clash}
-use Rattle.rules.specs.Sizes.{v_sets, v_ways, r_sets, r_ways, page_blocks}
-use Rattle.tables.specs.declared.types.EntryState.{EntryState}
-use Rattle.tables.specs.declared.types.EntryState.TheVariants.{Absent, Private, Shared}
-use Rattle.tables.specs.declared.types.Child.TheVariants.{NoChild, At}
+use Rattle.std.proofs.Common.{◌≡◌, ℕ, ◌<◌, ◌≤◌, true, List, length, set, Option, sym, refl, ap, ◌∙◌, subst, arith, length-set, get_or-set_other, get_or-set_same}
+use native.Mathlib.Decide.{ℕ_discrete}
+use Rattle.rules.specs.Sizes.{r_sets}
+use Rattle.tables.specs.declared.types.EntryState.TheVariants.{Private}
 use Rattle.tables.specs.declared.types.VLine.{VLine}
 use Rattle.tables.specs.declared.types.REntry.{REntry}
 use Rattle.tables.specs.declared.types.Processor.{Processor}
-use Rattle.rules.specs.Cache.{line_at, entry_at, is_empty, is_absent, is_valid, vdirty_of}
+use Rattle.rules.specs.Cache.{line_at, entry_at, is_absent}
 use Rattle.rules.specs.Bus.{Blocks, proc_at, modified, no_processor}
-use Rattle.rules.specs.Invariant.{Filled, Present, placed, Shaped}
-use Rattle.rules.specs.Sound.{LineOk, ChildOk, EntryOk, Sound, ProcOk, Inv, Clean, Lacks, translate}
-use Rattle.rules.proofs.Cells.{empty_filled}
+use Rattle.rules.specs.Invariant.{Present, placed}
+use Rattle.rules.specs.Sound.{Sound, ProcOk, Inv, Clean, Lacks, translate}
 
 -- what the blocks read as changes elsewhere
 pub sound_reads : (n : ℕ) (T : ℕ → Option ℕ) (f g : Blocks) (L : ℕ → ℕ → VLine) (E : ℕ → ℕ → REntry) → ((a b : ℕ) → Present (E a b) → f (E a b).block.0 ≡ g (E a b).block.0) → Sound n T f L E → Sound n T g L E

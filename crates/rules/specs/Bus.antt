@@ -1,8 +1,7 @@
 -- The bus: messages, and what the other processors do where they see one.
-use Rattle.std.specs.Prelude.{ℕ, zero, suc, ◌+◌, ◌*◌, ◌%◌, ◌^◌, Bool, true, false, ◌||◌, List, [], ◌∷◌, Some, None, Option, ◌==◌, slice_index_or, slice_set}
-use Rattle.rules.specs.Sizes.{v_sets, v_ways, r_sets, r_ways, page_blocks}
-use Rattle.tables.specs.declared.types.EntryState.{EntryState}
-use Rattle.tables.specs.declared.types.EntryState.TheVariants.{Absent, Private, Shared}
+use Rattle.std.specs.Prelude.{ℕ, zero, suc, ◌%◌, Bool, true, false, ◌||◌, List, [], Some, None, Option, ◌==◌, slice_index_or, slice_set}
+use Rattle.rules.specs.Sizes.{r_sets}
+use Rattle.tables.specs.declared.types.EntryState.TheVariants.{Shared}
 use Rattle.tables.specs.declared.types.Child.{Child}
 use Rattle.tables.specs.declared.types.Child.TheVariants.{NoChild, At}
 use Rattle.tables.specs.declared.types.VLine.{VLine}

@@ -1,5 +1,5 @@
 -- The whole machine: references, switches, remapping and the device.
-use Rattle.std.specs.Prelude.{ℕ, zero, suc, ◌+◌, ◌*◌, ◌/◌, ◌%◌, Bool, true, false, ◌||◌, List, [], ◌∷◌, ◌++◌, map, length, set, replicate, Some, None, Option, ◌==◌, nat_le, nat_lt, slice_index, slice_set}
+use Rattle.std.specs.Prelude.{ℕ, zero, suc, ◌+◌, ◌*◌, ◌/◌, ◌%◌, Bool, true, false, ◌||◌, List, [], ◌∷◌, ◌++◌, map, length, replicate, Some, None, Option, ◌==◌, nat_le, nat_lt, slice_index, slice_set}
 use Rattle.base.specs.Sizes.{addresses, block_words, frames, pages, processes}
 use Rattle.lines.specs.declared.line.Level.{Level}
 use Rattle.lines.specs.declared.line.Level.TheVariants.{VHit, RHit, Synonym, Miss, NoReference}
@@ -8,7 +8,7 @@ use Rattle.tables.specs.declared.message.MessageKind.{MessageKind}
 use Rattle.tables.specs.declared.message.MessageKind.TheVariants.{ReadMiss, Invalidation, ReadModifyWrite, WriteBack, DeviceRead, DeviceWrite}
 use Rattle.rules.specs.Sizes.{v_sets, v_ways, r_sets, r_ways, page_blocks, most_accepted, most_processors}
 use Rattle.tables.specs.declared.types.EntryState.{EntryState}
-use Rattle.tables.specs.declared.types.EntryState.TheVariants.{Absent, Private, Shared}
+use Rattle.tables.specs.declared.types.EntryState.TheVariants.{Private, Shared}
 use Rattle.tables.specs.declared.types.Child.{Child}
 use Rattle.tables.specs.declared.types.Child.TheVariants.{NoChild, At}
 use Rattle.tables.specs.declared.types.VLine.{VLine}
@@ -17,8 +17,7 @@ use Rattle.tables.specs.declared.types.Processor.{Processor}
 use Rattle.rules.specs.Basic.{pick, both}
 use Rattle.rules.specs.Invariant.{resident}
 use Rattle.rules.specs.Rule.{Rule}
-use Rattle.rules.specs.Cache
-use Rattle.rules.specs.Cache.{line_at, entry_at, put_entry, v_find, r_find, v_way, r_way, free_line, free_child, evict, moved, filled, stored, retagged, put_line, with_state, is_shared, v_used, v_loaded, r_used, r_loaded, with_counts, count_fetched, no_line, swap_all, swap_line, with_v, new_processor, is_valid}
+use Rattle.rules.specs.Cache.{line_at, entry_at, put_entry, v_find, r_find, v_way, r_way, free_line, free_child, evict, moved, filled, stored, retagged, put_line, with_state, is_shared, v_used, v_loaded, r_used, r_loaded, with_counts, count_fetched, swap_all, swap_line, with_v, new_processor}
 use Rattle.rules.specs.Bus.{device, memory, no_data, message, Blocks, put_block, proc_at, Passed, read_pass, take_pass}
 
 -- The whole board: the processors' records, of which the first cpus count; the memory's and the map's meaning; whether

@@ -2,9 +2,9 @@
 use Rattle.std.specs.Prelude.{◌≡◌, ℕ, List, [], ◌∷◌, ◌++◌, map}
 use Rattle.tables.specs.Messages.{message_word}
 use Rattle.lines.specs.declared.line.Level.{Level}
-use Rattle.lines.specs.declared.line.Level.TheVariants.{VHit, RHit, Synonym, Miss, NoReference}
+use Rattle.lines.specs.declared.line.Level.TheVariants.{VHit, Synonym, Miss, NoReference}
 use Rattle.rules.specs.Rule.{Lawful, lru}
-use Rattle.rules.specs.Calls.{Answer, Board, Rules}
+use Rattle.rules.specs.Calls.{Answer, Board}
 use Rattle.rules.specs.Run.{Call, reading, writing, switching, entering, taking, releasing, device_reading, device_writing, counts_reading, perform}
 use Rattle.rules.specs.History.{History, event}
 use Rattle.rules.specs.Laws.{Past}

@@ -1,5 +1,5 @@
 -- What callers saw of a run, the latest first, and what follows from it with no machine in sight.
-use Rattle.std.specs.Prelude.{◌≡◌, ℕ, zero, suc, ◌+◌, ◌*◌, ◌/◌, ◌%◌, ◌<◌, Bool, true, false, List, [], ◌∷◌, ◌++◌, length, Some, None, Option, ◌==◌, slice_index}
+use Rattle.std.specs.Prelude.{◌≡◌, ℕ, zero, suc, ◌+◌, ◌*◌, ◌/◌, ◌%◌, ◌<◌, Bool, true, false, List, [], ◌∷◌, ◌++◌, Some, None, Option, ◌==◌, slice_index}
 use Rattle.base.specs.Sizes.{block_words}
 use Rattle.tables.specs.declared.message.Message.{Message}
 use Rattle.tables.specs.declared.message.MessageKind.{MessageKind}

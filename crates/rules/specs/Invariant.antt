@@ -1,15 +1,11 @@
 -- What holds of one processor's two tables at all times.
-use Rattle.std.specs.Prelude.{◌≡◌, ℕ, ◌+◌, ◌%◌, ◌<◌, Bool, true, false, List, [], ◌∷◌, length, get_or}
-use Rattle.rules.specs.Sizes.{v_sets, v_ways, r_sets, r_ways, page_blocks}
-use Rattle.tables.specs.declared.types.Child.{Child}
-use Rattle.tables.specs.declared.types.Child.TheVariants.{NoChild, At}
+use Rattle.std.specs.Prelude.{◌≡◌, ℕ, ◌+◌, Bool, true, false, List, [], ◌∷◌, length}
+use Rattle.rules.specs.Sizes.{v_sets, v_ways, r_sets, r_ways}
 use Rattle.tables.specs.declared.types.Place.{Place}
 use Rattle.tables.specs.declared.types.VLine.{VLine}
 use Rattle.tables.specs.declared.types.REntry.{REntry}
 use Rattle.tables.specs.declared.types.Processor.{Processor}
-use Rattle.rules.specs.Basic.{pick}
-use Rattle.rules.specs.Cache.{line_at, entry_at, is_empty, is_absent, nowhere}
-use Rattle.rules.specs.Bus.{proc_at, modified}
+use Rattle.rules.specs.Cache.{is_empty, is_absent}
 
 abbrev pub placed : ℕ → ℕ → Place
 placed s w = record { set = s; way = w }

@@ -1,5 +1,5 @@
 -- The laws of every run.
-use Rattle.std.specs.Prelude.{◌≡◌, ℕ, zero, suc, ◌+◌, ◌%◌, ◌<◌, Bool, true, false, List, [], ◌∷◌, ◌++◌, length, Some, Option, ◌≢◌, slice_index}
+use Rattle.std.specs.Prelude.{◌≡◌, ℕ, ◌+◌, ◌%◌, ◌<◌, Bool, true, [], ◌∷◌, ◌++◌, length, Some, Option, ◌≢◌, slice_index}
 use Rattle.base.specs.Sizes.{block_words}
 use Rattle.tables.specs.declared.types.Child.TheVariants.{At}
 use Rattle.tables.specs.declared.types.Place.{Place}
@@ -9,7 +9,7 @@ use Rattle.rules.specs.Cache.{line_at, entry_at}
 use Rattle.rules.specs.Bus.{Blocks, modified}
 use Rattle.rules.specs.Calls.{Answer, Board, Rules, cpu_at, made}
 use Rattle.rules.specs.Run.{Call, perform}
-use Rattle.rules.specs.History.{Event, Read, Wrote, DeviceHadRead, History, Latest, Setup, event, fetched_in, physical_block, word_in}
+use Rattle.rules.specs.History.{Read, Wrote, DeviceHadRead, History, Latest, Setup, event, fetched_in, physical_block, word_in}
 use Rattle.rules.specs.Invariant.{Filled, Present, placed, resident}
 
 -- A run: a new machine with its caches empty, and then any calls, accepted or refused, in any order.

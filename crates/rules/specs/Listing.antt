@@ -1,5 +1,5 @@
 -- From the bytes of a trace to the bytes of its listing.
-use Rattle.std.specs.Prelude.{◌≡◌, ℕ, zero, suc, ◌+◌, List, [], ◌∷◌, ◌++◌, get_or, Some, None, Option}
+use Rattle.std.specs.Prelude.{ℕ, zero, suc, ◌+◌, List, [], ◌∷◌, ◌++◌, Some, None, Option}
 use Rattle.base.specs.Sizes.{block_words, most_blocks}
 use Rattle.tables.specs.declared.message.Message.{Message}
 use Rattle.tables.specs.Messages.{message_word}

@@ -1,5 +1,5 @@
 -- What a listing says of its trace, by records and lines alone.
-use Rattle.std.specs.Prelude.{◌≡◌, ℕ, zero, suc, ◌%◌, List, [], ◌∷◌, Some, Option}
+use Rattle.std.specs.Prelude.{◌≡◌, ℕ, zero, suc, ◌%◌, List, [], ◌∷◌, Some}
 use Rattle.base.specs.Sizes.{block_words}
 use Rattle.lines.specs.declared.line.Line.{Line}
 use Rattle.records.specs.declared.record.Record.{Record}

@@ -1,5 +1,5 @@
 -- What code may rely on of a board that was set up and has a past.
-use Rattle.std.specs.Prelude.{◌≡◌, ℕ, ◌<◌, ◌≤◌}
+use Rattle.std.specs.Prelude.{ℕ, ◌<◌, ◌≤◌}
 use Rattle.base.specs.Sizes.{processes}
 use Rattle.tables.specs.declared.types.Processor.{Processor}
 use Rattle.rules.specs.Sizes.{most_accepted, most_processors}

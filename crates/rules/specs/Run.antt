@@ -1,5 +1,5 @@
 -- The calls of a machine as values, and what each does to a board.
-use Rattle.std.specs.Prelude.{ℕ, Bool, List, length, Some, None}
+use Rattle.std.specs.Prelude.{ℕ, List, Some, None}
 use Rattle.rules.specs.Calls.{Board, Rules, Step, reference, switch, enter, erase, take, release, device_read, device_write, told, line_number, entry_number, counts_number}
 
 pub data Call : Type 0 where

@@ -1,18 +1,17 @@
 -- What holds of one processor at all times, over its tables as functions of set and way.
 -- n is the number of R-sets, T the translation of its process (virtual block to physical), f what each block reads as.
-use Rattle.std.specs.Prelude.{◌≡◌, ℕ, ◌+◌, ◌/◌, ◌%◌, ◌<◌, ◌≤◌, Bool, true, false, List, [], ◌∷◌, length, Some, None, Option, ◌≢◌}
-use Rattle.rules.specs.Sizes.{v_sets, v_ways, r_sets, r_ways, page_blocks}
-use Rattle.tables.specs.declared.types.EntryState.TheVariants.{Absent, Private, Shared}
-use Rattle.tables.specs.declared.types.Child.{Child}
-use Rattle.tables.specs.declared.types.Child.TheVariants.{NoChild, At}
+use Rattle.std.specs.Prelude.{◌≡◌, ℕ, ◌+◌, ◌/◌, ◌%◌, ◌<◌, ◌≤◌, Bool, true, false, List, length, Some, None, Option, ◌≢◌}
+use Rattle.rules.specs.Sizes.{r_sets, page_blocks}
+use Rattle.tables.specs.declared.types.EntryState.TheVariants.{Private}
+use Rattle.tables.specs.declared.types.Child.TheVariants.{At}
 use Rattle.tables.specs.declared.types.Place.{Place}
 use Rattle.tables.specs.declared.types.VLine.{VLine}
 use Rattle.tables.specs.declared.types.REntry.{REntry}
 use Rattle.tables.specs.declared.types.Processor.{Processor}
-use Rattle.rules.specs.Cache.{line_at, entry_at, is_empty, is_absent, is_valid, vdirty_of}
+use Rattle.rules.specs.Cache.{line_at, entry_at, is_absent, is_valid, vdirty_of}
 use Rattle.rules.specs.Bus.{Blocks, proc_at, modified}
 use Rattle.rules.specs.Invariant.{Filled, Present, placed, Shaped, resident}
-use Rattle.rules.specs.Calls.{Board, cpu_at, physical}
+use Rattle.rules.specs.Calls.{Board, physical}
 
 -- a filled line l at (a, b), beside the entry e at its R-place
 pub record LineOk (T : ℕ → Option ℕ) (f : Blocks) (a b : ℕ) (l : VLine) (e : REntry) : Type 0 where

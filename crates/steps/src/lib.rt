@@ -1,3 +1,5 @@
+#![tactic(auto)]
+
 pub mod attach;
 pub mod found;
 pub mod room;

@@ -1,5 +1,5 @@
 -- The mapped pages of a map, in the order of processes and pages, and the pages that share a frame.
-use Rattle.std.specs.Prelude.{ℕ, zero, suc, ◌+◌, ◌*◌, ◌/◌, ◌%◌, Bool, cond, List, [], ◌∷◌, ◌++◌, Some, None, Ok, Err, Option, Result, ◌==◌}
+use Rattle.std.specs.Prelude.{ℕ, zero, suc, ◌*◌, ◌/◌, ◌%◌, cond, List, [], ◌∷◌, ◌++◌, Some, None, Ok, Err, Option, Result, ◌==◌}
 use Rattle.base.specs.Sizes.{pages, processes}
 use Rattle.base.specs.declared.block.Frame.{Frame}
 use Rattle.base.specs.declared.block.Page.{Page}

@@ -1,3 +1,5 @@
+#![tactic(auto)]
+
 pub mod pages;
 pub mod play;
 pub mod trace;

@@ -36,9 +36,9 @@ fn add_row(
 
 // All mapped pages, in the order of processes and pages, by look-up alone.
 pub fn mapped_pages<M: Map>(heap: Global, map: &mut M) -> Result<Vec<MappedPage>, AllocError>
-    ensures kept { sound map.old → sound map.new }
-    ensures frames { sound map.old → frame map.new ≡ frame map.old }
-    ensures rows { sound map.old → IfOk result (λ v. v.items ≡ mapped (frame map.old)) }
+    ensures kept { M.Map.sound map.old → M.Map.sound map.new }
+    ensures frames { M.Map.sound map.old → M.Map.frame map.new ≡ M.Map.frame map.old }
+    ensures rows { M.Map.sound map.old → IfOk result (λ v. v.items ≡ mapped (M.Map.frame map.old)) }
 {
     let mut rows = Vec::new(heap);
     for number in 0..u16::from(PROCESSES) * PAGES {

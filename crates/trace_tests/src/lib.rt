@@ -1,4 +1,6 @@
 // Tests of reading traces, of writing lines and of the map of a trace.
+#![tactic(auto)]
+
 #[cfg(test)]
 mod decoding;
 #[cfg(test)]

@@ -102,7 +102,7 @@ fn cut_short_is_18(rt: HostRuntime) -> Result<(), Fail> {
             9..=27 => (18, 1),
             _ => (18, 2),
         };
-        reads(&rt, heap, &bytes[..len], wanted).note(len)?;
+        reads(&rt, heap, &bytes[..len], wanted)?;
     }
     let loose = [0x10, 0, 0, 0, 0x80, 0xFF, 0xFF];
     for end in 5..8 {
@@ -141,7 +141,7 @@ fn first_refusal_counts(rt: HostRuntime) -> Result<(), Fail> {
     ] {
         let mut bytes = bytes_of(heap, words)?;
         for loose in 0..4 {
-            reads(&rt, heap, &bytes, (number, record)).note(loose)?;
+            reads(&rt, heap, &bytes, (number, record))?;
             bytes.push(0xFF)?;
         }
     }

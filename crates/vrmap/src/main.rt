@@ -1,8 +1,11 @@
+#![tactic(auto)]
+
 use base::block::Frame;
 use base::size::FRAMES;
 use records::trace::{TRACE_BYTES, TraceError};
 use std::alloc::{AllocError, Global};
 use std::io::{Read, Write};
+use std::process::ExitCode;
 use std::{fmt, io};
 use trace_map::pages::{MappedPage, mapped_pages, sharers};
 use trace_map::trace::map_of_trace;
@@ -124,12 +127,12 @@ fn run(rt: &HostRuntime) -> Result<(), Failure> {
 }
 
 // A failure is told on standard error, and ends the program with status 1.
-fn main(rt: HostRuntime) -> Result<(), Failure> {
+fn main(rt: HostRuntime) -> ExitCode {
     match run(&rt) {
-        Ok(()) => Ok(()),
+        Ok(()) => ExitCode::SUCCESS,
         Err(failure) => {
             let _ = eprintln!(rt; "vrmap: {failure}");
-            Err(failure)
+            ExitCode::FAILURE
         }
     }
 }

@@ -8,8 +8,8 @@ loop-i-preserved c =
     elim c.if-i-from.branch [
       | then-i-from w ↦
           (λ sn. w.processors-is
-          ∙ take_turn c.args.count c.loop-i.i c.args.sender c.args.block.0 c.args.processors.now c.loop-i.processors w.snoop-take.new.p
-          (omega arith) (λ e. w.if-i-from.true (e ∙ sym c.from.ensures)) w.snoop-take.ensures c.loop-i.invariant sn)
+          ∙ take_turn c.args.count c.loop-i.i c.args.sender c.args.block.0 c.args.processors.now c.loop-i.processors w.snoop_take.new.p
+          (omega arith) (λ e. w.if-i-from.true (e ∙ sym c.from.ensures)) w.snoop_take.ensures c.loop-i.invariant sn)
       | else-i-from w ↦
           (λ sn. w.processors-is
           ∙ take_skipped c.args.count c.loop-i.i c.args.sender c.args.block.0 c.args.processors.now c.loop-i.processors (w.if-i-from.false ∙ c.from.ensures) c.loop-i.invariant sn)

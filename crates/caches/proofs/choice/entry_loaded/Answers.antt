@@ -5,4 +5,4 @@ use Rattle.caches.proofs.choice.entry_loaded.Goals as goal
 
 pub returns : goal.returns
 unfolding r_sets r_ways
-returns g c = entry_loaded_in (rule_of g.R.Rule c.args.rule.now) c.args.p.now c.args.set c.args.way c.load-way.new.word c.load-way.ensures
+returns g c = entry_loaded_in (rule_of g.R.Rule c.args.rule.now) c.args.p.now c.args.set c.args.way c.load_way.new.word c.load_way.ensures

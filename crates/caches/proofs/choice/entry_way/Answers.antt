@@ -1,5 +1,5 @@
-use Rattle.std.proofs.Common.{◌%◌, ◌<◌, get_or}
-use Rattle.rules.specs.Sizes.{r_sets, r_ways}
+use Rattle.std.proofs.Common.{◌%◌, get_or}
+use Rattle.rules.specs.Sizes.{r_sets}
 use Rattle.rules.specs.Rule.{Lawful}
 use Rattle.caches.specs.Choice.{rule_of}
 use Rattle.caches.proofs.Ways.{absent_way, present_way, entry_choice_in}
@@ -19,6 +19,6 @@ returns-in-None g c =
     let law : Lawful ru = record { chosen = g.met.R.Rule.chosen c.args.rule.now } in
     let word = get_or c.args.p.now.rrule (c.args.set % r_sets) 0 in
     record {
-      way = present_way ru c.args.p.now c.args.set c.choose.result c.asked-ways.result c.in-None.ensures.way c.asked-ways.ensures c.choose.ensures;
-      within = entry_choice_in ru law c.args.p.now c.args.set c.choose.result word c.asked-ways.result c.asked-ways.ensures c.choose.ensures;
+      way = present_way ru c.args.p.now c.args.set c.choose.result c.asked_ways.result c.in-None.ensures.way c.asked_ways.ensures c.choose.ensures;
+      within = entry_choice_in ru law c.args.p.now c.args.set c.choose.result word c.asked_ways.result c.asked_ways.ensures c.choose.ensures;
     }

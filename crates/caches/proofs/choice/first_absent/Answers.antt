@@ -1,4 +1,4 @@
-use Rattle.std.proofs.Common.{◌≡◌, ℕ, ◌%◌, sym, ap, ◌∙◌, arith}
+use Rattle.std.proofs.Common.{◌≡◌, ◌%◌, sym, ap, ◌∙◌, arith}
 use Rattle.rules.specs.Basic.{first_below}
 use Rattle.rules.specs.Cache.{entry_at, is_absent}
 use Rattle.rules.specs.Sizes.{r_sets, r_ways}
@@ -7,13 +7,13 @@ use Rattle.caches.proofs.choice.first_absent.Goals as goal
 
 pub loop-way-preserved : goal.loop-way-preserved
 unfolding r_sets
-loop-way-preserved c = first_more c.loop-way.way (λ k. is_absent (entry_at c.args.p.now (c.args.set % r_sets) k).state) c.loop-way.invariant (sym c.if-is-absent.ensures)
+loop-way-preserved c = first_more c.loop-way.way (λ k. is_absent (entry_at c.args.p.now (c.args.set % r_sets) k).state) c.loop-way.invariant (sym c.if-is_absent.ensures)
 
-pub returns-then-is-absent : goal.returns-then-is-absent
+pub returns-then-is_absent : goal.returns-then-is_absent
 unfolding r_sets r_ways
-returns-then-is-absent c =
+returns-then-is_absent c =
     record {
-      way = sym (first_found r_ways (λ k. is_absent (entry_at c.args.p.now (c.args.set % r_sets) k).state) c.loop-way.way c.loop-way-test.true c.loop-way.invariant (sym c.if-is-absent.ensures));
+      way = sym (first_found r_ways (λ k. is_absent (entry_at c.args.p.now (c.args.set % r_sets) k).state) c.loop-way.way c.loop-way-test.true c.loop-way.invariant (sym c.if-is_absent.ensures));
       within = c.loop-way-test.true;
     }
 

@@ -1,4 +1,4 @@
-use Rattle.std.proofs.Common.{◌≡◌, ◌%◌, Some, None}
+use Rattle.std.proofs.Common.{◌≡◌, ◌%◌, None}
 use Rattle.rules.specs.Basic.{first_below}
 use Rattle.rules.specs.Cache.{entry_at, childless}
 use Rattle.rules.specs.Sizes.{r_sets}

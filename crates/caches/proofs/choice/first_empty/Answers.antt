@@ -1,4 +1,4 @@
-use Rattle.std.proofs.Common.{◌≡◌, ℕ, ◌%◌, sym, ap, ◌∙◌, arith}
+use Rattle.std.proofs.Common.{◌≡◌, ◌%◌, sym, ap, ◌∙◌, arith}
 use Rattle.rules.specs.Basic.{first_below}
 use Rattle.rules.specs.Cache.{line_at, is_empty}
 use Rattle.rules.specs.Sizes.{v_sets, v_ways}
@@ -7,13 +7,13 @@ use Rattle.caches.proofs.choice.first_empty.Goals as goal
 
 pub loop-way-preserved : goal.loop-way-preserved
 unfolding v_sets
-loop-way-preserved c = first_more c.loop-way.way (λ k. is_empty (line_at c.args.p.now (c.args.set % v_sets) k).state) c.loop-way.invariant (sym c.if-is-empty.ensures)
+loop-way-preserved c = first_more c.loop-way.way (λ k. is_empty (line_at c.args.p.now (c.args.set % v_sets) k).state) c.loop-way.invariant (sym c.if-is_empty.ensures)
 
-pub returns-then-is-empty : goal.returns-then-is-empty
+pub returns-then-is_empty : goal.returns-then-is_empty
 unfolding v_sets v_ways
-returns-then-is-empty c =
+returns-then-is_empty c =
     record {
-      way = sym (first_found v_ways (λ k. is_empty (line_at c.args.p.now (c.args.set % v_sets) k).state) c.loop-way.way c.loop-way-test.true c.loop-way.invariant (sym c.if-is-empty.ensures));
+      way = sym (first_found v_ways (λ k. is_empty (line_at c.args.p.now (c.args.set % v_sets) k).state) c.loop-way.way c.loop-way-test.true c.loop-way.invariant (sym c.if-is_empty.ensures));
       within = c.loop-way-test.true;
     }
 

@@ -1,4 +1,4 @@
-use Rattle.std.proofs.Common.{◌≡◌, ◌%◌, Some, None}
+use Rattle.std.proofs.Common.{◌≡◌, ◌%◌, None}
 use Rattle.rules.specs.Basic.{first_below}
 use Rattle.rules.specs.Cache.{line_at, is_empty}
 use Rattle.rules.specs.Sizes.{v_sets}

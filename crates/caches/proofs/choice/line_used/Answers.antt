@@ -5,4 +5,4 @@ use Rattle.caches.proofs.choice.line_used.Goals as goal
 
 pub returns : goal.returns
 unfolding v_sets v_ways
-returns g c = line_used_in (rule_of g.V.Rule c.args.rule.now) c.args.p.now c.args.set c.args.way c.use-way.new.word c.use-way.ensures
+returns g c = line_used_in (rule_of g.V.Rule c.args.rule.now) c.args.p.now c.args.set c.args.way c.use_way.new.word c.use_way.ensures

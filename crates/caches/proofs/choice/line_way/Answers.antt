@@ -1,4 +1,4 @@
-use Rattle.std.proofs.Common.{◌%◌, ◌<◌, get_or}
+use Rattle.std.proofs.Common.{◌%◌, get_or}
 use Rattle.rules.specs.Sizes.{v_sets, v_ways}
 use Rattle.rules.specs.Rule.{Lawful}
 use Rattle.caches.specs.Choice.{rule_of}
@@ -19,6 +19,6 @@ returns-in-None g c =
     let law : Lawful ru = record { chosen = g.met.V.Rule.chosen c.args.rule.now } in
     let word = get_or c.args.p.now.vrule (c.args.set % v_sets) 0 in
     record {
-      way = full_way ru c.args.p.now c.args.set c.choose.result c.ways-below.result c.in-None.ensures.way c.ways-below.ensures c.choose.ensures;
-      within = line_choice_in ru law c.choose.result word c.ways-below.result c.ways-below.ensures c.choose.ensures;
+      way = full_way ru c.args.p.now c.args.set c.choose.result c.ways_below.result c.in-None.ensures.way c.ways_below.ensures c.choose.ensures;
+      within = line_choice_in ru law c.choose.result word c.ways_below.result c.ways_below.ensures c.choose.ensures;
     }

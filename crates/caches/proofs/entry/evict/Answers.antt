@@ -17,6 +17,6 @@ unfolding r_sets r_ways
 returns-in-Private c =
     let f : is_absent (entry_at c.args.p.now (c.args.set % r_sets) (c.args.way % r_ways)).state ≡ false = elim c.in-Private.is [ inl e ↦ ap is_absent e | inr e ↦ ap is_absent e ] in
     record {
-      processor = evict_there c.args.p.now c.args.set c.args.way c.count-replaced.new.counts c.no-entry.result f c.no-entry.ensures c.count-replaced.ensures;
+      processor = evict_there c.args.p.now c.args.set c.args.way c.count_replaced.new.counts c.no_entry.result f c.no_entry.ensures c.count_replaced.ensures;
       answer = entry_in c.args.p.now c.args.set c.args.way;
     }

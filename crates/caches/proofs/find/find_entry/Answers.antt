@@ -1,4 +1,4 @@
-use Rattle.std.proofs.Common.{◌≡◌, ◌%◌, sym, arith}
+use Rattle.std.proofs.Common.{◌%◌, sym, arith}
 use Rattle.rules.specs.Sizes.{r_sets, r_ways}
 use Rattle.rules.specs.Cache.{holds, entry_at}
 use Rattle.caches.proofs.First.{first_more}
@@ -8,13 +8,13 @@ use Rattle.caches.proofs.find.find_entry.Goals as goal
 pub loop-way-preserved : goal.loop-way-preserved
 unfolding r_sets
 loop-way-preserved c =
-    first_more c.loop-way.way (λ k. holds c.args.block.0 (entry_at c.args.p.now (c.number.result % r_sets) k)) c.loop-way.invariant (sym c.if-is-holder.ensures)
+    first_more c.loop-way.way (λ k. holds c.args.block.0 (entry_at c.args.p.now (c.number.result % r_sets) k)) c.loop-way.invariant (sym c.if-is_holder.ensures)
 
-pub returns-then-is-holder : goal.returns-then-is-holder
+pub returns-then-is_holder : goal.returns-then-is_holder
 unfolding r_sets r_ways
-returns-then-is-holder c =
+returns-then-is_holder c =
     record {
-      way = entry_found c.args.p.now c.args.block.0 c.number.result c.loop-way.way c.number.ensures c.loop-way-test.true c.loop-way.invariant c.if-is-holder.ensures;
+      way = entry_found c.args.p.now c.args.block.0 c.number.result c.loop-way.way c.number.ensures c.loop-way-test.true c.loop-way.invariant c.if-is_holder.ensures;
       within = c.loop-way-test.true;
     }
 

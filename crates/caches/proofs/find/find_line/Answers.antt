@@ -1,4 +1,4 @@
-use Rattle.std.proofs.Common.{◌≡◌, ◌%◌, sym, arith}
+use Rattle.std.proofs.Common.{◌%◌, sym, arith}
 use Rattle.rules.specs.Sizes.{v_sets, v_ways}
 use Rattle.rules.specs.Cache.{hits, line_at}
 use Rattle.caches.proofs.First.{first_more}
@@ -8,13 +8,13 @@ use Rattle.caches.proofs.find.find_line.Goals as goal
 pub loop-way-preserved : goal.loop-way-preserved
 unfolding v_sets
 loop-way-preserved c =
-    first_more c.loop-way.way (λ k. hits c.args.block.0 (line_at c.args.p.now (c.number.result % v_sets) k)) c.loop-way.invariant (sym c.if-is-hit.ensures)
+    first_more c.loop-way.way (λ k. hits c.args.block.0 (line_at c.args.p.now (c.number.result % v_sets) k)) c.loop-way.invariant (sym c.if-is_hit.ensures)
 
-pub returns-then-is-hit : goal.returns-then-is-hit
+pub returns-then-is_hit : goal.returns-then-is_hit
 unfolding v_sets v_ways
-returns-then-is-hit c =
+returns-then-is_hit c =
     record {
-      way = line_found c.args.p.now c.args.block.0 c.number.result c.loop-way.way c.number.ensures c.loop-way-test.true c.loop-way.invariant c.if-is-hit.ensures;
+      way = line_found c.args.p.now c.args.block.0 c.number.result c.loop-way.way c.number.ensures c.loop-way-test.true c.loop-way.invariant c.if-is_hit.ensures;
       within = c.loop-way-test.true;
     }
 

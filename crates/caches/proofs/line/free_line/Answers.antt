@@ -11,6 +11,6 @@ returns-in-Empty c = λ rg ls lw. free_empty c.args.p.now c.args.set c.args.way 
 pub returns-in-Valid : goal.returns-in-Valid
 unfolding v_sets v_ways r_sets r_ways
 returns-in-Valid c =
-    free_filled_lem c.args.p.now c.args.set c.args.way c.unlink.result c.no-line.result
+    free_filled_lem c.args.p.now c.args.set c.args.way c.unlink.result c.no_line.result
     (elim c.in-Valid.is [ inl e ↦ ap is_empty e | inr e ↦ ap is_empty e ])
-    c.unlink.ensures c.no-line.ensures
+    c.unlink.ensures c.no_line.ensures

@@ -4,4 +4,4 @@ use Rattle.caches.proofs.line.retag.Goals as goal
 
 pub returns : goal.returns
 unfolding v_sets v_ways
-returns c = retag_in c.args.p.now c.args.set c.args.way c.args.tag.0 c.valid-under.result c.valid-under.ensures
+returns c = retag_in c.args.p.now c.args.set c.args.way c.args.tag.0 c.valid_under.result c.valid_under.ensures

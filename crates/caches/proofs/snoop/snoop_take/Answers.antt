@@ -6,20 +6,20 @@ use Rattle.caches.proofs.snoop.snoop_take.Goals as goal
 pub returns : goal.returns
 unfolding r_sets
 returns c =
-    take_in c.args.p.now c.empty-child.new.p c.args.block.0 c.number.result c.in-Some.way c.count-invalidated.new.counts c.no-entry.result
-    c.number.ensures c.in-Some.ensures.way c.empty-child.ensures c.no-entry.ensures c.count-invalidated.ensures
+    take_in c.args.p.now c.empty_child.new.p c.args.block.0 c.number.result c.in-Some.way c.count_invalidated.new.counts c.no_entry.result
+    c.number.ensures c.in-Some.ensures.way c.empty_child.ensures c.no_entry.ensures c.count_invalidated.ensures
 
-pub offset-bounds-p-way : goal.offset-bounds-p-way
+pub offset_bounds-p-way : goal.offset_bounds-p-way
 unfolding r_ways
-offset-bounds-p-way c = omega (arith, c.in-Some.ensures.within)
+offset_bounds-p-way c = omega (arith, c.in-Some.ensures.within)
 
 pub bounds-p-way : goal.bounds-p-way
 unfolding r_ways
 bounds-p-way c = omega (arith, c.in-Some.ensures.within)
 
-pub offset-bounds-p-way-2 : goal.offset-bounds-p-way-2
+pub offset_bounds-p-way-2 : goal.offset_bounds-p-way-2
 unfolding r_ways
-offset-bounds-p-way-2 c = omega (arith, c.in-Some.ensures.within)
+offset_bounds-p-way-2 c = omega (arith, c.in-Some.ensures.within)
 
 pub bounds-p-way-in-Some : goal.bounds-p-way-in-Some
 unfolding r_ways

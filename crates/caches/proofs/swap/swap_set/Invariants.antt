@@ -1,4 +1,4 @@
-use Rattle.std.proofs.Common.{◌≡◌, map}
+use Rattle.std.proofs.Common.{◌≡◌}
 use Rattle.rules.specs.Cache.{swap_line}
 use Rattle.caches.proofs.Maps.{map_first}
 use Rattle.caches.proofs.swap.swap_set.Given as goal

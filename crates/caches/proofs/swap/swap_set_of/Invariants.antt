@@ -1,4 +1,4 @@
-use Rattle.std.proofs.Common.{◌≡◌, map}
+use Rattle.std.proofs.Common.{◌≡◌}
 use Rattle.rules.specs.Calls.{swap_page}
 use Rattle.caches.proofs.Maps.{map_first}
 use Rattle.caches.proofs.swap.swap_set_of.Given as goal

@@ -8,7 +8,7 @@ loop-set-init c = map_start (map swap_line) c.args.sets.now
 
 pub loop-set-preserved : goal.loop-set-preserved
 loop-set-preserved c =
-    map_turn (map swap_line) c.loop-set.set c.args.sets.now c.loop-set.sets [] c.swap-set.new.lines c.loop-set.invariant c.swap-set.ensures
+    map_turn (map swap_line) c.loop-set.set c.args.sets.now c.loop-set.sets [] c.swap_set.new.lines c.loop-set.invariant c.swap_set.ensures
 
 pub returns : goal.returns
 returns c = map_end (map swap_line) c.loop-set.set c.args.sets.now c.loop-set.sets c.loop-set.invariant (omega arith)

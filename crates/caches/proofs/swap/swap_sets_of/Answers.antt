@@ -8,7 +8,7 @@ loop-set-init c = map_start (map (swap_page c.args.page.0)) c.args.sets.now
 
 pub loop-set-preserved : goal.loop-set-preserved
 loop-set-preserved c =
-    map_turn (map (swap_page c.args.page.0)) c.loop-set.set c.args.sets.now c.loop-set.sets [] c.swap-set-of.new.lines c.loop-set.invariant c.swap-set-of.ensures
+    map_turn (map (swap_page c.args.page.0)) c.loop-set.set c.args.sets.now c.loop-set.sets [] c.swap_set_of.new.lines c.loop-set.invariant c.swap_set_of.ensures
 
 pub returns : goal.returns
 returns c = map_end (map (swap_page c.args.page.0)) c.loop-set.set c.args.sets.now c.loop-set.sets c.loop-set.invariant (omega arith)

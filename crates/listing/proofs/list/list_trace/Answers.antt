@@ -7,32 +7,32 @@ use Rattle.records.proofs.Whole.{words_length}
 use Rattle.listing.proofs.Whole.{fresh_board, too_long, words_listed, zero_count, zero_memory}
 use Rattle.listing.proofs.list.list_trace.Goals as goal
 
-pub returns-then-bytes-gt-TRACE-BYTES : goal.returns-then-bytes-gt-TRACE-BYTES
-returns-then-bytes-gt-TRACE-BYTES c =
-    too_long c.args.bytes.now (vec_items c.push-line.new.out) (line_bytes c.fault-line.result) (omega arith) (ap line_bytes c.fault-line.ensures) (c.push-line.ensures.items ∙ ap (λ (z : List ℕ). z ++ line_bytes c.fault-line.result) c.in-ok-out.ensures.items)
+pub returns-then-bytes-gt-TRACE_BYTES : goal.returns-then-bytes-gt-TRACE_BYTES
+returns-then-bytes-gt-TRACE_BYTES c =
+    too_long c.args.bytes.now (vec_items c.push_line.new.out) (line_bytes c.fault_line.result) (omega arith) (ap line_bytes c.fault_line.ensures) (c.push_line.ensures.items ∙ ap (λ (z : List ℕ). z ++ line_bytes c.fault_line.result) c.in_ok-out.ensures.items)
 
-pub overflow-mul-len : goal.overflow-mul-len
-overflow-mul-len c =
+pub overflow_mul-len : goal.overflow_mul-len
+overflow_mul-len c =
     let few = words_length c.args.bytes.now in
-    let is = ap length c.in-ok-words.ensures in
-    let own = c.in-ok-words.words.ok.0 in
+    let is = ap length c.in_ok-words.ensures in
+    let own = c.in_ok-words.words.ok.0 in
     omega arith
 
-pub list-words-requires : goal.list-words-requires
-list-words-requires c =
+pub list_words-requires : goal.list_words-requires
+list_words-requires c =
     let few = words_length c.args.bytes.now in
-    let is = ap length c.in-ok-words.ensures in
-    let own = c.in-ok-words.words.ok.0 in
-    let cap = c.in-ok-out-2.ensures.made in
+    let is = ap length c.in_ok-words.ensures in
+    let own = c.in_ok-words.words.ok.0 in
+    let cap = c.in_ok-out-2.ensures.made in
     let here = c.deref.ensures.len in
     record { few = omega arith; room = omega arith }
 
 pub returns : goal.returns
 returns c =
-    let cap = c.in-ok-out-2.ensures in
+    let cap = c.in_ok-out-2.ensures in
     let sm = c.new-2.ensures.sound c.new.ensures.sound in
     let h = c.new-3.ensures.holds in
     let nf = ap (λ (z : FlatTable). flat z.entries) c.new-2.ensures.same ∙ c.new.ensures.frames in
     let es = fresh_board _ _ _ _ _ refl (c.new-machine.ensures.board tt) (zero_memory 2048 _ h) (zero_count _ h) nf in
-    words_listed c.args.bytes.now _ (vec_items c.in-ok-out-2.out) (vec_items c.list-words.new.out) _ _ _ (omega arith) (c.deref.ensures.value ∙ c.in-ok-words.ensures) refl refl es cap.items
-    (c.list-words.ensures _ _ (c.new-machine.ensures.past sm tt))
+    words_listed c.args.bytes.now _ (vec_items c.in_ok-out-2.out) (vec_items c.list_words.new.out) _ _ _ (omega arith) (c.deref.ensures.value ∙ c.in_ok-words.ensures) refl refl es cap.items
+    (c.list_words.ensures _ _ (c.new-machine.ensures.past sm tt))

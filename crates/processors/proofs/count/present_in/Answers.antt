@@ -6,8 +6,8 @@ use Rattle.tables.specs.declared.types.REntry.{REntry}
 use Rattle.processors.proofs.Tallies.{one_few, tally_turn, tally_end}
 use Rattle.processors.proofs.count.present_in.Goals as goal
 
-pub overflow-add-count : goal.overflow-add-count
-overflow-add-count c =
+pub overflow_add-count : goal.overflow_add-count
+overflow_add-count c =
     let f = one_few (is_absent (get_or c.args.row.now c.loop-way.way past_entry).state) in
     let e = c.present-count.ensures in
     omega arith

@@ -11,6 +11,6 @@ returns-in-None c = record {
 
 pub returns-in-Some : goal.returns-in-Some
 returns-in-Some c = record {
-  processors = write_finished c.args.value c.args.processors.now c.args.cpu c.args.line.set c.args.line.way c.args.word c.in-Some.value c.in-Some.is c.store-word.new.p c.store-word.ensures;
+  processors = write_finished c.args.value c.args.processors.now c.args.cpu c.args.line.set c.args.line.way c.args.word c.in-Some.value c.in-Some.is c.store_word.new.p c.store_word.ensures;
   answer = λ li ls lw lk. write_answered c.args.value c.args.processors.now c.args.cpu c.args.line.set c.args.line.way c.args.word c.in-Some.value c.in-Some.is;
 }

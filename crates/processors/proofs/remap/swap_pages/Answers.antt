@@ -9,7 +9,7 @@ loop-cpu-init c = map_start (swap_pages c.args.process.0 c.args.page.0) c.args.p
 
 pub loop-cpu-preserved : goal.loop-cpu-preserved
 loop-cpu-preserved c =
-    map_turn (swap_pages c.args.process.0 c.args.page.0) c.loop-cpu.cpu c.args.processors.now c.loop-cpu.processors no_processor c.swap-page.new.p c.loop-cpu.invariant c.swap-page.ensures
+    map_turn (swap_pages c.args.process.0 c.args.page.0) c.loop-cpu.cpu c.args.processors.now c.loop-cpu.processors no_processor c.swap_page.new.p c.loop-cpu.invariant c.swap_page.ensures
 
 pub returns : goal.returns
 returns c = map_end (swap_pages c.args.process.0 c.args.page.0) c.loop-cpu.cpu c.args.processors.now c.loop-cpu.processors c.loop-cpu.invariant (omega arith)

@@ -8,42 +8,42 @@ use Rattle.machine.proofs.Ends.{with}
 use Rattle.machine.proofs.Checking.{admit_rejects, beside_err, beside_ok, block_rejects, checks, length_rejects, read_alike, tenure_rejects}
 use Rattle.machine.proofs.machine.Machine.check_transfer.Goals as goal
 
-pub returns-in-err-admit : goal.returns-in-err-admit
-returns-in-err-admit g c =
-    let p = err_from_is_err_and c.from-residual.result c.from-residual.ensures.1 in
+pub returns-in_err-admit : goal.returns-in_err-admit
+returns-in_err-admit g c =
+    let p = err_from_is_err_and c.from_residual.result c.from_residual.ensures.1 in
     rw (p.1, p.2)
     (record {
-      found = λ so. admit_rejects g.M.Map g.S.Memory g.V.Rule g.R.Rule c.args.self.now so c.args.tenure.now.machine c.args.block c.args.size c.in-err-admit.field-0.0 (sym c.in-err-admit.ensures);
+      found = λ so. admit_rejects g.M.Map g.S.Memory g.V.Rule g.R.Rule c.args.self.now so c.args.tenure.now.machine c.args.block c.args.size c.in_err-admit.field-0.0 (sym c.in_err-admit.ensures);
       words = tt;
       held = refl;
       number = refl;
       setup = refl;
     })
 
-pub returns-in-err-check-tenure : goal.returns-in-err-check-tenure
-returns-in-err-check-tenure g c =
-    let p = err_from_is_err_and c.from-residual-in-err-check-tenure.result c.from-residual-in-err-check-tenure.ensures.1 in
+pub returns-in_err-check-tenure : goal.returns-in_err-check-tenure
+returns-in_err-check-tenure g c =
+    let p = err_from_is_err_and c.from_residual-in_err-check-tenure.result c.from_residual-in_err-check-tenure.ensures.1 in
     rw (p.1, p.2)
     (record {
-      found = λ so. tenure_rejects g.M.Map g.S.Memory g.V.Rule g.R.Rule c.args.self.now so c.args.tenure.now.machine c.args.block c.args.size (sym c.in-ok-admit.ensures) c.in-err-check-tenure.field-0.0 (sym c.in-err-check-tenure.ensures);
+      found = λ so. tenure_rejects g.M.Map g.S.Memory g.V.Rule g.R.Rule c.args.self.now so c.args.tenure.now.machine c.args.block c.args.size (sym c.in_ok-admit.ensures) c.in_err-check-tenure.field-0.0 (sym c.in_err-check-tenure.ensures);
       words = tt;
       held = refl;
       number = refl;
       setup = refl;
     })
 
-pub returns-in-err-beside : goal.returns-in-err-beside
-returns-in-err-beside g c =
+pub returns-in_err-beside : goal.returns-in_err-beside
+returns-in_err-beside g c =
     let x = c.args.self.now in
-    let e = c.in-err-beside.field-0.0 in
-    let f = beside_err c.read.result Device e (sym c.in-err-beside.ensures) in
-    let p = err_from_is_err_and c.from-residual-in-err-beside.result c.from-residual-in-err-beside.ensures.1 in
+    let e = c.in_err-beside.field-0.0 in
+    let f = beside_err c.read.result Device e (sym c.in_err-beside.ensures) in
+    let p = err_from_is_err_and c.from_residual-in_err-beside.result c.from_residual-in_err-beside.ensures.1 in
     rw (p.1, p.2)
     (record {
       found = λ so.
           let al = read_alike g.M.Map g.S.Memory g.V.Rule g.R.Rule x so c.args.tenure.now.machine c.args.block c.args.size c.read.new.self (c.read.ensures.kept so.memory) (c.read.ensures.same so.memory) (c.read.ensures.blocks so.memory) in
           subst (λ (z : Caller). Rejected g.M.Map g.S.Memory g.V.Rule g.R.Rule c.args.tenure.now.machine c.args.block c.args.size x (with g.M.Map g.S.Memory g.V.Rule g.R.Rule x c.read.new.self x.processors x.accepted) (Memory z e.0)) (sym f.1)
-          (block_rejects g.M.Map g.S.Memory g.V.Rule g.R.Rule x so c.args.tenure.now.machine c.args.block c.args.size (sym c.in-ok-admit.ensures) (sym c.in-ok-check-tenure.ensures) c.read.new.self al e.0 (sym (c.read.ensures.answer so.memory) ∙ f.0));
+          (block_rejects g.M.Map g.S.Memory g.V.Rule g.R.Rule x so c.args.tenure.now.machine c.args.block c.args.size (sym c.in_ok-admit.ensures) (sym c.in_ok-check-tenure.ensures) c.read.new.self al e.0 (sym (c.read.ensures.answer so.memory) ∙ f.0));
       words = tt;
       held = refl;
       number = refl;
@@ -53,11 +53,11 @@ returns-in-err-beside g c =
 pub returns-then-size-ne-BLOCK-WORDS : goal.returns-then-size-ne-BLOCK-WORDS
 returns-then-size-ne-BLOCK-WORDS g c =
     let x = c.args.self.now in
-    let f = beside_ok c.read.result Device c.in-ok-beside.field-0 (sym c.in-ok-beside.ensures) in
+    let f = beside_ok c.read.result Device c.in_ok-beside.field-0 (sym c.in_ok-beside.ensures) in
     record {
       found = λ so.
           let al = read_alike g.M.Map g.S.Memory g.V.Rule g.R.Rule x so c.args.tenure.now.machine c.args.block c.args.size c.read.new.self (c.read.ensures.kept so.memory) (c.read.ensures.same so.memory) (c.read.ensures.blocks so.memory) in
-          length_rejects g.M.Map g.S.Memory g.V.Rule g.R.Rule x so c.args.tenure.now.machine c.args.block c.args.size (sym c.in-ok-admit.ensures) (sym c.in-ok-check-tenure.ensures) c.read.new.self al c.in-ok-beside.field-0 (sym (c.read.ensures.answer so.memory) ∙ f) c.if-size-ne-BLOCK-WORDS.true;
+          length_rejects g.M.Map g.S.Memory g.V.Rule g.R.Rule x so c.args.tenure.now.machine c.args.block c.args.size (sym c.in_ok-admit.ensures) (sym c.in_ok-check-tenure.ensures) c.read.new.self al c.in_ok-beside.field-0 (sym (c.read.ensures.answer so.memory) ∙ f) c.if-size-ne-BLOCK-WORDS.true;
       words = tt;
       held = refl;
       number = refl;
@@ -67,11 +67,11 @@ returns-then-size-ne-BLOCK-WORDS g c =
 pub returns : goal.returns
 returns g c =
     let x = c.args.self.now in
-    let f = beside_ok c.read.result Device c.in-ok-beside.field-0 (sym c.in-ok-beside.ensures) in
+    let f = beside_ok c.read.result Device c.in_ok-beside.field-0 (sym c.in_ok-beside.ensures) in
     record {
       found = λ so.
           let al = read_alike g.M.Map g.S.Memory g.V.Rule g.R.Rule x so c.args.tenure.now.machine c.args.block c.args.size c.read.new.self (c.read.ensures.kept so.memory) (c.read.ensures.same so.memory) (c.read.ensures.blocks so.memory) in
-          checks g.M.Map g.S.Memory g.V.Rule g.R.Rule x so c.args.tenure.now.machine c.args.block c.args.size (sym c.in-ok-admit.ensures) (sym c.in-ok-check-tenure.ensures) c.read.new.self al c.in-ok-beside.field-0 (sym (c.read.ensures.answer so.memory) ∙ f) c.if-size-ne-BLOCK-WORDS.false;
+          checks g.M.Map g.S.Memory g.V.Rule g.R.Rule x so c.args.tenure.now.machine c.args.block c.args.size (sym c.in_ok-admit.ensures) (sym c.in_ok-check-tenure.ensures) c.read.new.self al c.in_ok-beside.field-0 (sym (c.read.ensures.answer so.memory) ∙ f) c.if-size-ne-BLOCK-WORDS.false;
       words = c.if-size-ne-BLOCK-WORDS.false;
       held = refl;
       number = refl;

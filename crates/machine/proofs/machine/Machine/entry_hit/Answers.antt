@@ -11,16 +11,16 @@ use Rattle.machine.proofs.Ends.{one_more}
 use Rattle.machine.proofs.Holding.{here_claim, here_ends, here_entry, here_few, here_stops}
 use Rattle.machine.proofs.machine.Machine.entry_hit.Goals as goal
 
-pub returns-in-err-sent : goal.returns-in-err-sent
+pub returns-in_err-sent : goal.returns-in_err-sent
 unfolding r_sets
-returns-in-err-sent g c = λ f A F.
+returns-in_err-sent g c = λ f A F.
     let x = c.args.self.now in
     let r = c.args.r in
     let w = c.args.way in
-    let p = err_from_is_err_and c.from-residual.result c.from-residual.ensures.1 in
+    let p = err_from_is_err_and c.from_residual.result c.from_residual.ensures.1 in
     rw (p.1, p.2)
-    (here_stops g.M.Map g.S.Memory g.V.Rule g.R.Rule x r c.args.block.0 w f A F.0 F.1 c.claim.new.processors c.in-err-sent.field-0.0
-    (here_claim g.M.Map g.S.Memory g.V.Rule g.R.Rule x r c.args.block.0 w f A F.0 F.1 (c.number.result % r_sets) (ap (λ n. n % r_sets) c.number.ensures) _ c.claim.new.processors (Err c.in-err-sent.field-0.0) (set-get_or x.processors c.cpu-cpu.result no_processor) c.in-err-sent.ensures))
+    (here_stops g.M.Map g.S.Memory g.V.Rule g.R.Rule x r c.args.block.0 w f A F.0 F.1 c.claim.new.processors c.in_err-sent.field-0.0
+    (here_claim g.M.Map g.S.Memory g.V.Rule g.R.Rule x r c.args.block.0 w f A F.0 F.1 (c.number.result % r_sets) (ap (λ n. n % r_sets) c.number.ensures) _ c.claim.new.processors (Err c.in_err-sent.field-0.0) (set-get_or x.processors c.cpu-cpu.result no_processor) c.in_err-sent.ensures))
 
 pub returns : goal.returns
 unfolding r_sets
@@ -34,10 +34,10 @@ returns g c = λ f A F.
     let eh = ap (λ n. n % r_sets) c.number.ensures in
     let ls : c.set.result < v_sets = subst (λ (z : ℕ). z < v_sets) (sym c.set.ensures) (v_set_in (ref_of r).vb) in
     let ee = here_entry g.M.Map g.S.Memory g.V.Rule g.R.Rule x r b w f A F.0 F.1 c.entry-at-child.result c.cpu-cpu.result (c.number.result % r_sets) ec eh c.entry-at-child.ensures in
-    let cl = here_claim g.M.Map g.S.Memory g.V.Rule g.R.Rule x r b w f A F.0 F.1 (c.number.result % r_sets) eh _ c.claim.new.processors (Ok c.in-ok-sent.sent) (set-get_or x.processors c.cpu-cpu.result no_processor) c.in-ok-sent.ensures in
-    here_ends g.M.Map g.S.Memory g.V.Rule g.R.Rule x r b w f A F.0 F.1 law c.claim.new.processors c.finish-word.new.processors c.attach-found.new.p c.in-ok-sent.sent c.attach-found.result c.entry-at-child.result
-    c.cpu-cpu.result c.set.result c.word.result c.block.result.0 c.finish-word.result c.saturating-add-self.result ec c.set.ensures c.word.ensures.value c.block.ensures ee cl
+    let cl = here_claim g.M.Map g.S.Memory g.V.Rule g.R.Rule x r b w f A F.0 F.1 (c.number.result % r_sets) eh _ c.claim.new.processors (Ok c.in_ok-sent.sent) (set-get_or x.processors c.cpu-cpu.result no_processor) c.in_ok-sent.ensures in
+    here_ends g.M.Map g.S.Memory g.V.Rule g.R.Rule x r b w f A F.0 F.1 law c.claim.new.processors c.finish-word.new.processors c.attach-found.new.p c.in_ok-sent.sent c.attach-found.result c.entry-at-child.result
+    c.cpu-cpu.result c.set.result c.word.result c.block.result.0 c.finish-word.result c.saturating_add-self.result ec c.set.ensures c.word.ensures.value c.block.ensures ee cl
     c.attach-found.ensures
     (λ lw rg fl. c.finish-word.ensures.processors c.cpu-cpu.ensures.within rg fl ls lw c.word.ensures.within)
     (λ lw. c.finish-word.ensures.answer c.cpu-cpu.ensures.within ls lw c.word.ensures.within)
-    (one_more x.accepted c.saturating-add-self.result A.room c.saturating-add-self.ensures)
+    (one_more x.accepted c.saturating_add-self.result A.room c.saturating_add-self.ensures)

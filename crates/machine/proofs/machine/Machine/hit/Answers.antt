@@ -10,17 +10,17 @@ use Rattle.machine.proofs.Ends.{one_more}
 use Rattle.machine.proofs.Hitting.{few, hit_claim, hit_ends, hit_line, hit_stops, way}
 use Rattle.machine.proofs.machine.Machine.hit.Goals as goal
 
-pub returns-in-err-sent : goal.returns-in-err-sent
-returns-in-err-sent g c = λ f A found.
+pub returns-in_err-sent : goal.returns-in_err-sent
+returns-in_err-sent g c = λ f A found.
     let x = c.args.self.now in
     let r = c.args.r in
     let w = c.args.way in
     let ec = c.cpu-cpu.ensures.value (few g.M.Map g.S.Memory g.V.Rule g.R.Rule x r w f A found) in
     let el = hit_line g.M.Map g.S.Memory g.V.Rule g.R.Rule x r w f A found c.line-at.result c.cpu-cpu.result c.set.result ec c.set.ensures c.line-at.ensures in
-    let p = err_from_is_err_and c.from-residual.result c.from-residual.ensures.1 in
+    let p = err_from_is_err_and c.from_residual.result c.from_residual.ensures.1 in
     rw (p.1, p.2)
-    (hit_stops g.M.Map g.S.Memory g.V.Rule g.R.Rule x r w f A found c.claim.new.processors c.in-err-sent.field-0.0
-    (hit_claim g.M.Map g.S.Memory g.V.Rule g.R.Rule x r w f A found c.line-at.result el _ c.claim.new.processors (Err c.in-err-sent.field-0.0) (set-get_or x.processors c.cpu-cpu.result no_processor) c.in-err-sent.ensures))
+    (hit_stops g.M.Map g.S.Memory g.V.Rule g.R.Rule x r w f A found c.claim.new.processors c.in_err-sent.field-0.0
+    (hit_claim g.M.Map g.S.Memory g.V.Rule g.R.Rule x r w f A found c.line-at.result el _ c.claim.new.processors (Err c.in_err-sent.field-0.0) (set-get_or x.processors c.cpu-cpu.result no_processor) c.in_err-sent.ensures))
 
 pub returns : goal.returns
 returns g c = λ f A found.
@@ -32,10 +32,10 @@ returns g c = λ f A found.
     let ec = c.cpu-cpu.ensures.value lf in
     let ls : c.set.result < v_sets = subst (λ (z : ℕ). z < v_sets) (sym c.set.ensures) (v_set_in (ref_of r).vb) in
     let el = hit_line g.M.Map g.S.Memory g.V.Rule g.R.Rule x r w f A found c.line-at.result c.cpu-cpu.result c.set.result ec c.set.ensures c.line-at.ensures in
-    let cl = hit_claim g.M.Map g.S.Memory g.V.Rule g.R.Rule x r w f A found c.line-at.result el _ c.claim.new.processors (Ok c.in-ok-sent.sent) (set-get_or x.processors c.cpu-cpu.result no_processor) c.in-ok-sent.ensures in
-    hit_ends g.M.Map g.S.Memory g.V.Rule g.R.Rule x r w f A found c.claim.new.processors c.finish-word.new.processors c.line-used.new.p c.in-ok-sent.sent
-    c.cpu-cpu.result c.set.result c.word.result c.finish-word.result c.saturating-add-self.result ec c.set.ensures c.word.ensures.value cl
+    let cl = hit_claim g.M.Map g.S.Memory g.V.Rule g.R.Rule x r w f A found c.line-at.result el _ c.claim.new.processors (Ok c.in_ok-sent.sent) (set-get_or x.processors c.cpu-cpu.result no_processor) c.in_ok-sent.ensures in
+    hit_ends g.M.Map g.S.Memory g.V.Rule g.R.Rule x r w f A found c.claim.new.processors c.finish-word.new.processors c.line-used.new.p c.in_ok-sent.sent
+    c.cpu-cpu.result c.set.result c.word.result c.finish-word.result c.saturating_add-self.result ec c.set.ensures c.word.ensures.value cl
     (c.line-used.ensures ls lw)
     (λ rg fl. c.finish-word.ensures.processors c.cpu-cpu.ensures.within rg fl ls lw c.word.ensures.within)
     (c.finish-word.ensures.answer c.cpu-cpu.ensures.within ls lw c.word.ensures.within)
-    (one_more x.accepted c.saturating-add-self.result A.room c.saturating-add-self.ensures)
+    (one_more x.accepted c.saturating_add-self.result A.room c.saturating_add-self.ensures)

@@ -8,19 +8,19 @@ use Rattle.rules.specs.Cache.{r_find}
 use Rattle.machine.proofs.Looking.{beyond_stops, look_admitted, look_few, look_found, look_frame, look_goes, look_none, look_search, look_some, look_stops}
 use Rattle.machine.proofs.machine.Machine.miss.Goals as goal
 
-pub returns-in-err-block : goal.returns-in-err-block
-returns-in-err-block g c = λ f A la.
+pub returns-in_err-block : goal.returns-in_err-block
+returns-in_err-block g c = λ f A la.
     let x = c.args.self.now in
     let r = c.args.r in
     let ec = c.cpu-cpu.ensures.value (look_few g.M.Map g.S.Memory g.V.Rule g.R.Rule x r f A la) in
     let q : Process = (proc_at x.processors c.cpu-cpu.result).process in
     let lq : q.0 < processes = A.ready.known c.cpu-cpu.result in
     let n = look_none (g.M.Map.frame x.map) q c.block.result r.address.0 c.block.ensures lq la c.look-up.result (c.look-up.ensures.answer A.sound.map) (Processor r.processor) c.beside.result c.beside.ensures
-    c.in-err-block.field-0.0.0 c.in-err-block.field-0.0.1 c.in-err-block.was in
-    let p = err_from_is_err_and c.from-residual.result c.from-residual.ensures.1 in
+    c.in_err-block.field-0.0.0 c.in_err-block.field-0.0.1 c.in_err-block.was in
+    let p = err_from_is_err_and c.from_residual.result c.from_residual.ensures.1 in
     rw p.1
     (look_stops g.M.Map g.S.Memory g.V.Rule g.R.Rule x r f A la c.look-up.new.self x.processors (c.look-up.ensures.kept A.sound.map) (c.look-up.ensures.frames A.sound.map) refl
-    p.0 c.in-err-block.field-0.0.0 c.in-err-block.field-0.0.1 p.2 (look_frame g.M.Map g.S.Memory g.V.Rule g.R.Rule x r f A la None c.cpu-cpu.result ec n.0) n.1 n.2)
+    p.0 c.in_err-block.field-0.0.0 c.in_err-block.field-0.0.1 p.2 (look_frame g.M.Map g.S.Memory g.V.Rule g.R.Rule x r f A la None c.cpu-cpu.result ec n.0) n.1 n.2)
 
 pub returns-then-number-count-blocks : goal.returns-then-number-count-blocks
 returns-then-number-count-blocks g c = λ f A la.
@@ -29,7 +29,7 @@ returns-then-number-count-blocks g c = λ f A la.
     let ec = c.cpu-cpu.ensures.value (look_few g.M.Map g.S.Memory g.V.Rule g.R.Rule x r f A la) in
     let q : Process = (proc_at x.processors c.cpu-cpu.result).process in
     let lq : q.0 < processes = A.ready.known c.cpu-cpu.result in
-    let n = look_some (g.M.Map.frame x.map) q c.block.result r.address.0 c.block.ensures lq la c.look-up.result (c.look-up.ensures.answer A.sound.map) (Processor r.processor) c.beside.result c.beside.ensures c.in-ok-block.block c.in-ok-block.was in
+    let n = look_some (g.M.Map.frame x.map) q c.block.result r.address.0 c.block.ensures lq la c.look-up.result (c.look-up.ensures.answer A.sound.map) (Processor r.processor) c.beside.result c.beside.ensures c.in_ok-block.block c.in_ok-block.was in
     beyond_stops g.M.Map g.S.Memory g.V.Rule g.R.Rule x r f A la c.look-up.new.self x.processors (c.look-up.ensures.kept A.sound.map) (c.look-up.ensures.frames A.sound.map) refl
     c.number.result n.0 c.count-blocks.result (look_frame g.M.Map g.S.Memory g.V.Rule g.R.Rule x r f A la (Some n.0) c.cpu-cpu.result ec n.1) (c.number.ensures ∙ n.2) (c.count-blocks.ensures A.sound.memory) c.if-number-count-blocks.true
 
@@ -40,8 +40,8 @@ returns-in-Some g c = λ f A la.
     let ec = c.cpu-cpu.ensures.value (look_few g.M.Map g.S.Memory g.V.Rule g.R.Rule x r f A la) in
     let q : Process = (proc_at x.processors c.cpu-cpu.result).process in
     let lq : q.0 < processes = A.ready.known c.cpu-cpu.result in
-    let b = c.in-ok-block.block.0 in
-    let n = look_some (g.M.Map.frame x.map) q c.block.result r.address.0 c.block.ensures lq la c.look-up.result (c.look-up.ensures.answer A.sound.map) (Processor r.processor) c.beside.result c.beside.ensures c.in-ok-block.block c.in-ok-block.was in
+    let b = c.in_ok-block.block.0 in
+    let n = look_some (g.M.Map.frame x.map) q c.block.result r.address.0 c.block.ensures lq la c.look-up.result (c.look-up.ensures.answer A.sound.map) (Processor r.processor) c.beside.result c.beside.ensures c.in_ok-block.block c.in_ok-block.was in
     let ef = look_frame g.M.Map g.S.Memory g.V.Rule g.R.Rule x r f A la (Some n.0) c.cpu-cpu.result ec n.1 in
     let es = look_search g.M.Map g.S.Memory g.V.Rule g.R.Rule x r f A la b c.cpu-cpu.result (Some c.in-Some.way) ec c.in-Some.ensures.way in
     let ks = c.look-up.ensures.kept A.sound.map in
@@ -59,8 +59,8 @@ returns-in-None g c = λ f A la.
     let ec = c.cpu-cpu.ensures.value (look_few g.M.Map g.S.Memory g.V.Rule g.R.Rule x r f A la) in
     let q : Process = (proc_at x.processors c.cpu-cpu.result).process in
     let lq : q.0 < processes = A.ready.known c.cpu-cpu.result in
-    let b = c.in-ok-block.block.0 in
-    let n = look_some (g.M.Map.frame x.map) q c.block.result r.address.0 c.block.ensures lq la c.look-up.result (c.look-up.ensures.answer A.sound.map) (Processor r.processor) c.beside.result c.beside.ensures c.in-ok-block.block c.in-ok-block.was in
+    let b = c.in_ok-block.block.0 in
+    let n = look_some (g.M.Map.frame x.map) q c.block.result r.address.0 c.block.ensures lq la c.look-up.result (c.look-up.ensures.answer A.sound.map) (Processor r.processor) c.beside.result c.beside.ensures c.in_ok-block.block c.in_ok-block.was in
     let ef = look_frame g.M.Map g.S.Memory g.V.Rule g.R.Rule x r f A la (Some n.0) c.cpu-cpu.result ec n.1 in
     let es = look_search g.M.Map g.S.Memory g.V.Rule g.R.Rule x r f A la b c.cpu-cpu.result (None) ec c.in-None.ensures.way in
     let ks = c.look-up.ensures.kept A.sound.map in

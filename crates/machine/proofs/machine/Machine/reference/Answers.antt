@@ -14,28 +14,28 @@ use Rattle.machine.proofs.Admitting.{admit_passes}
 use Rattle.machine.proofs.Referring.{an_address, refer_admitted, refer_goes, refer_missing}
 use Rattle.machine.proofs.machine.Machine.reference.Goals as goal
 
-pub returns-in-err-locate : goal.returns-in-err-locate
-returns-in-err-locate g c = λ u h P.
+pub returns-in_err-locate : goal.returns-in_err-locate
+returns-in_err-locate g c = λ u h P.
     let x = c.args.self.now in
     let lv : Lawful (rules_of g.M.Map g.S.Memory g.V.Rule g.R.Rule x).for_v = record { chosen = g.met.V.Rule.chosen x.v_rule } in
     let lr : Lawful (rules_of g.M.Map g.S.Memory g.V.Rule g.R.Rule x).for_r = record { chosen = g.met.R.Rule.chosen x.r_rule } in
-    let O = admit_passes g.M.Map g.S.Memory g.V.Rule g.R.Rule x P.sound (Processor c.args.processor) (sym c.admit.ensures ∙ c.in-ok-admit.was) in
-    let p = err_from_is_err_and c.from-residual-in-err-locate.result c.from-residual-in-err-locate.ensures.1 in
+    let O = admit_passes g.M.Map g.S.Memory g.V.Rule g.R.Rule x P.sound (Processor c.args.processor) (sym c.admit.ensures ∙ c.in_ok-admit.was) in
+    let p = err_from_is_err_and c.from_residual-in_err-locate.result c.from_residual-in_err-locate.ensures.1 in
     rw (p.1, p.2)
-    (refer_missing g.M.Map g.S.Memory g.V.Rule g.R.Rule x c.args.processor c.args.address c.args.value P.sound O c.in-err-locate.field-0.0 c.in-err-locate.ensures
+    (refer_missing g.M.Map g.S.Memory g.V.Rule g.R.Rule x c.args.processor c.args.address c.args.value P.sound O c.in_err-locate.field-0.0 c.in_err-locate.ensures
     (few g.M.Map g.S.Memory g.V.Rule g.R.Rule x lv lr u h P O.setup))
 
-pub returns-in-default-find-line : goal.returns-in-default-find-line
-returns-in-default-find-line g c = λ u h P.
+pub returns-in_default-find-line : goal.returns-in_default-find-line
+returns-in_default-find-line g c = λ u h P.
     let x = c.args.self.now in
     let lv : Lawful (rules_of g.M.Map g.S.Memory g.V.Rule g.R.Rule x).for_v = record { chosen = g.met.V.Rule.chosen x.v_rule } in
     let lr : Lawful (rules_of g.M.Map g.S.Memory g.V.Rule g.R.Rule x).for_r = record { chosen = g.met.R.Rule.chosen x.r_rule } in
-    let O = admit_passes g.M.Map g.S.Memory g.V.Rule g.R.Rule x P.sound (Processor c.args.processor) (sym c.admit.ensures ∙ c.in-ok-admit.was) in
+    let O = admit_passes g.M.Map g.S.Memory g.V.Rule g.R.Rule x P.sound (Processor c.args.processor) (sym c.admit.ensures ∙ c.in_ok-admit.was) in
     let R = past_ready (rules_of g.M.Map g.S.Memory g.V.Rule g.R.Rule x) lv lr u h (board g.M.Map g.S.Memory g.V.Rule g.R.Rule x) P.past O.setup in
-    let L = c.in-ok-locate.ensures in
+    let L = c.in_ok-locate.ensures in
     let a = an_address c.args.address c.in-Some.address (sym c.in-Some.ensures) in
     let ec = c.cpu.ensures.value (subst (λ (z : ℕ). z < most_processors) L.place L.within) in
-    let es : v_find (proc_at x.processors c.args.processor.0) (block_of c.in-Some.address.0) ≡ None = sym (c.in-default-find-line.ensures.way ∙ (λ j. v_find (proc_at x.processors (ec j)) (c.block.ensures j))) in
+    let es : v_find (proc_at x.processors c.args.processor.0) (block_of c.in-Some.address.0) ≡ None = sym (c.in_default-find-line.ensures.way ∙ (λ j. v_find (proc_at x.processors (ec j)) (c.block.ensures j))) in
     refer_goes g.M.Map g.S.Memory g.V.Rule g.R.Rule x c.args.processor c.args.address c.args.value P.sound O L.below R.0 R.1 c.in-Some.address a.0 a.1 x.processors refl c.miss.new.self c.miss.result None es
     (c.miss.ensures R.0 (refer_admitted g.M.Map g.S.Memory g.V.Rule g.R.Rule x c.args.processor c.args.address c.args.value P.sound O L.below R.0 R.1 c.in-Some.address a.0 a.1 x.processors refl)
     (subst (λ (z : ℕ). z < addresses) (sym a.0) a.1))
@@ -45,9 +45,9 @@ returns g c = λ u h P.
     let x = c.args.self.now in
     let lv : Lawful (rules_of g.M.Map g.S.Memory g.V.Rule g.R.Rule x).for_v = record { chosen = g.met.V.Rule.chosen x.v_rule } in
     let lr : Lawful (rules_of g.M.Map g.S.Memory g.V.Rule g.R.Rule x).for_r = record { chosen = g.met.R.Rule.chosen x.r_rule } in
-    let O = admit_passes g.M.Map g.S.Memory g.V.Rule g.R.Rule x P.sound (Processor c.args.processor) (sym c.admit.ensures ∙ c.in-ok-admit.was) in
+    let O = admit_passes g.M.Map g.S.Memory g.V.Rule g.R.Rule x P.sound (Processor c.args.processor) (sym c.admit.ensures ∙ c.in_ok-admit.was) in
     let R = past_ready (rules_of g.M.Map g.S.Memory g.V.Rule g.R.Rule x) lv lr u h (board g.M.Map g.S.Memory g.V.Rule g.R.Rule x) P.past O.setup in
-    let L = c.in-ok-locate.ensures in
+    let L = c.in_ok-locate.ensures in
     let a = an_address c.args.address c.in-Some.address (sym c.in-Some.ensures) in
     let ec = c.cpu.ensures.value (subst (λ (z : ℕ). z < most_processors) L.place L.within) in
     let es : v_find (proc_at x.processors c.args.processor.0) (block_of c.in-Some.address.0) ≡ Some c.in-Some-find-line.way = sym (c.in-Some-find-line.ensures.way ∙ (λ j. v_find (proc_at x.processors (ec j)) (c.block.ensures j))) in

@@ -5,20 +5,20 @@ use Rattle.machine.specs.Transfers.{BlockWrites, DeviceWrites, Releases, Takes}
 use Rattle.machine.proofs.Moving.{moves, stays, take_told, writes_told}
 use Rattle.machine.proofs.machine.Machine.write_block.Goals as goal
 
-pub returns-in-err-tenure : goal.returns-in-err-tenure
-returns-in-err-tenure g c =
+pub returns-in_err-tenure : goal.returns-in_err-tenure
+returns-in_err-tenure g c =
     let x = c.args.self.now in
     let y = c.take.new.self in
     let ws = c.args.words.now in
     let b = c.args.block in
-    let e = c.in-err-tenure.field-0.0 in
-    let p = err_from_is_err_and c.from-residual.result c.from-residual.ensures.1 in
+    let e = c.in_err-tenure.field-0.0 in
+    let p = err_from_is_err_and c.from_residual.result c.from_residual.ensures.1 in
     rw (p.1, p.2)
     (record {
       call = λ u h H.
-          let P = c.in-err-tenure.ensures.call u h H in
+          let P = c.in_err-tenure.ensures.call u h H in
           stays g.M.Map g.S.Memory g.V.Rule g.R.Rule (λ t. device_writing t b.0 ws) u h x y (Takes x.number (Err e)) (BlockWrites b (Err e)) e P P.told (take_told b e _ P.told);
-      held = rw c.in-err-tenure.ensures.kept refl;
+      held = rw c.in_err-tenure.ensures.kept refl;
       number = c.take.ensures.number;
       setup = c.take.ensures.setup;
     })
@@ -28,8 +28,8 @@ returns g c =
     let x = c.args.self.now in
     let ws = c.args.words.now in
     let b = c.args.block in
-    let t = c.in-ok-tenure.tenure in
-    let E = c.in-ok-tenure.ensures in
+    let t = c.in_ok-tenure.tenure in
+    let E = c.in_ok-tenure.ensures in
     let q = c.device-write-moved.result in
     record {
       call = λ u h H.

@@ -6,7 +6,7 @@ use Rattle.paging.proofs.buffer.TranslationBuffer.new.Goals as goal
 
 pub returns : goal.returns
 returns g c = record {
-  sound = λ s. (s, subst (λ (x : List Place). Agree (g.M.Map.frame c.args.below) x) (sym c.empty-places.ensures) (agree_empty _ places));
+  sound = λ s. (s, subst (λ (x : List Place). Agree (g.M.Map.frame c.args.below) x) (sym c.empty_places.ensures) (agree_empty _ places));
   same = search rules;
   empty = search rules;
 }

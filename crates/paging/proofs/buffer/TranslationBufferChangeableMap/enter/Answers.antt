@@ -1,4 +1,4 @@
-use Rattle.std.proofs.Common.{◌≡◌, sym, ap, ◌∙◌, subst, rules}
+use Rattle.std.proofs.Common.{sym, ap, ◌∙◌, subst, rules}
 use Rattle.paging.specs.Places.{Agree}
 use Rattle.paging.proofs.Agreement.{agree_emptied}
 use Rattle.paging.proofs.buffer.TranslationBufferChangeableMap.enter.Goals as goal

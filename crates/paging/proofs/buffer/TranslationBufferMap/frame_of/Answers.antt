@@ -6,7 +6,7 @@ use Rattle.paging.proofs.buffer.TranslationBufferMap.frame_of.Goals as goal
 
 pub returns-in-Some : goal.returns-in-Some
 returns-in-Some g c =
-    let k : kept c.args.self.now.places c.args.process c.args.page ≡ Some c.in-Some.frame = sym c.kept-frame.ensures ∙ c.in-Some.is in
+    let k : kept c.args.self.now.places c.args.process c.args.page ≡ Some c.in-Some.frame = sym c.kept_frame.ensures ∙ c.in-Some.is in
     record {
       kept = λ s. s;
       answer = λ s. kept_looked _ c.args.self.now.places _ _ _ (g.met.M.Map.within _ s.0) s.1 k;
@@ -17,10 +17,10 @@ returns-in-Some g c =
 
 pub returns : goal.returns
 returns g c =
-    let e = c.frame-of.ensures in
-    let f = c.in-ok-frame.was in
+    let e = c.frame_of.ensures in
+    let f = c.in_ok-frame.was in
     let p = c.put.ensures in
-    let k : kept c.args.self.now.places c.args.process c.args.page ≡ None = sym c.kept-frame.ensures ∙ c.in-default.is in
+    let k : kept c.args.self.now.places c.args.process c.args.page ≡ None = sym c.kept_frame.ensures ∙ c.in_default.is in
     record {
       kept = λ s. (
         subst (λ x. g.M.Map.sound x) (sym p.same) (e.kept s.0),
@@ -29,6 +29,6 @@ returns g c =
       );
       answer = λ s. sym f ∙ e.answer s.0;
       frames = λ s. ap g.M.Map.frame p.same ∙ e.frames s.0;
-      places = p.places ∙ sym (ap (λ o. after_look o c.args.self.now.places c.args.process c.args.page (Ok c.in-ok-frame.frame)) k);
+      places = p.places ∙ sym (ap (λ o. after_look o c.args.self.now.places c.args.process c.args.page (Ok c.in_ok-frame.frame)) k);
       untouched = λ h. absurd (false≢true (sym (ap is_some k) ∙ h));
     }

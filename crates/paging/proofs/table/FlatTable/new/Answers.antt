@@ -6,7 +6,7 @@ use Rattle.paging.proofs.table.FlatTable.new.Goals as goal
 
 pub returns : goal.returns
 returns c =
-    let e = c.no-entries.ensures in
+    let e = c.no_entries.ensures in
     record {
       sound = subst (λ (x : Entries). Small x) (sym e) (none_all_small (processes * pages));
       frames = ap (λ (x : Entries). flat x) e ∙ flat_unmapped (processes * pages);

@@ -1,4 +1,4 @@
-use Rattle.std.proofs.Common.{◌≡◌, sym, ap, ◌∙◌, subst}
+use Rattle.std.proofs.Common.{sym, ap, ◌∙◌, subst}
 use Rattle.paging.specs.Frames.{Small, flat}
 use Rattle.paging.specs.Flat.{Entries, flat_put, none_small, small_put}
 use Rattle.paging.proofs.table.FlatTableChangeableMap.erase.Goals as goal
