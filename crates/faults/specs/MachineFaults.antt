@@ -26,13 +26,13 @@ fault_number (Setup f) = setup_fault_number f
 fault_number (Full c) = 3
 fault_number (NoProcessor p) = 4
 fault_number (NoAddress p) = 5
-fault_number (Map c f) = map.faultNumber f
+fault_number (Map c f) = map.fault_number f
 fault_number (BeyondMemory p) = 7
 fault_number (BusHeld p) = 8
 fault_number (NoProcess p) = 9
 fault_number BusTaken = 10
 fault_number NoTenure = 11
-fault_number (Memory c f) = memory.faultNumber f
+fault_number (Memory c f) = memory.fault_number f
 fault_number SliceLength = 13
 fault_number (NoPlace p) = 14
 
