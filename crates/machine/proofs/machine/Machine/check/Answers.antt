@@ -5,8 +5,8 @@ use Rattle.machine.proofs.machine.Machine.check.Goals as goal
 
 pub returns-in-Some : goal.returns-in-Some
 returns-in-Some g c = λ so.
-    setup_some c.args.processors (g.S.Memory.count c.args.memory.now) (Some c.in-Some.fault) c.in-Some.fault (c.in-Some.ensures ∙ ap (setup_of c.args.processors) (c.count-blocks.ensures so)) refl
+    setup_some c.args.processors (g.S.Memory.count c.args.memory.now) (Some c.in-Some.fault) c.in-Some.fault (c.in-Some.ensures ∙ ap (setup_of c.args.processors) (c.count_blocks.ensures so)) refl
 
 pub returns-in-None : goal.returns-in-None
 returns-in-None g c = λ so.
-    setup_none c.args.processors (g.S.Memory.count c.args.memory.now) None (c.in-None.ensures ∙ ap (setup_of c.args.processors) (c.count-blocks.ensures so)) refl
+    setup_none c.args.processors (g.S.Memory.count c.args.memory.now) None (c.in-None.ensures ∙ ap (setup_of c.args.processors) (c.count_blocks.ensures so)) refl

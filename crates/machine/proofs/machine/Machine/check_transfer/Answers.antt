@@ -20,12 +20,12 @@ returns-in_err-admit g c =
       setup = refl;
     })
 
-pub returns-in_err-check-tenure : goal.returns-in_err-check-tenure
-returns-in_err-check-tenure g c =
-    let p = err_from_is_err_and c.from_residual-in_err-check-tenure.result c.from_residual-in_err-check-tenure.ensures.1 in
+pub returns-in_err-check_tenure : goal.returns-in_err-check_tenure
+returns-in_err-check_tenure g c =
+    let p = err_from_is_err_and c.from_residual-in_err-check_tenure.result c.from_residual-in_err-check_tenure.ensures.1 in
     rw (p.1, p.2)
     (record {
-      found = λ so. tenure_rejects g.M.Map g.S.Memory g.V.Rule g.R.Rule c.args.self.now so c.args.tenure.now.machine c.args.block c.args.size (sym c.in_ok-admit.ensures) c.in_err-check-tenure.field-0.0 (sym c.in_err-check-tenure.ensures);
+      found = λ so. tenure_rejects g.M.Map g.S.Memory g.V.Rule g.R.Rule c.args.self.now so c.args.tenure.now.machine c.args.block c.args.size (sym c.in_ok-admit.ensures) c.in_err-check_tenure.field-0.0 (sym c.in_err-check_tenure.ensures);
       words = tt;
       held = refl;
       number = refl;
@@ -43,21 +43,21 @@ returns-in_err-beside g c =
       found = λ so.
           let al = read_alike g.M.Map g.S.Memory g.V.Rule g.R.Rule x so c.args.tenure.now.machine c.args.block c.args.size c.read.new.self (c.read.ensures.kept so.memory) (c.read.ensures.same so.memory) (c.read.ensures.blocks so.memory) in
           subst (λ (z : Caller). Rejected g.M.Map g.S.Memory g.V.Rule g.R.Rule c.args.tenure.now.machine c.args.block c.args.size x (with g.M.Map g.S.Memory g.V.Rule g.R.Rule x c.read.new.self x.processors x.accepted) (Memory z e.0)) (sym f.1)
-          (block_rejects g.M.Map g.S.Memory g.V.Rule g.R.Rule x so c.args.tenure.now.machine c.args.block c.args.size (sym c.in_ok-admit.ensures) (sym c.in_ok-check-tenure.ensures) c.read.new.self al e.0 (sym (c.read.ensures.answer so.memory) ∙ f.0));
+          (block_rejects g.M.Map g.S.Memory g.V.Rule g.R.Rule x so c.args.tenure.now.machine c.args.block c.args.size (sym c.in_ok-admit.ensures) (sym c.in_ok-check_tenure.ensures) c.read.new.self al e.0 (sym (c.read.ensures.answer so.memory) ∙ f.0));
       words = tt;
       held = refl;
       number = refl;
       setup = refl;
     })
 
-pub returns-then-size-ne-BLOCK-WORDS : goal.returns-then-size-ne-BLOCK-WORDS
-returns-then-size-ne-BLOCK-WORDS g c =
+pub returns-then-size-ne-BLOCK_WORDS : goal.returns-then-size-ne-BLOCK_WORDS
+returns-then-size-ne-BLOCK_WORDS g c =
     let x = c.args.self.now in
     let f = beside_ok c.read.result Device c.in_ok-beside.field-0 (sym c.in_ok-beside.ensures) in
     record {
       found = λ so.
           let al = read_alike g.M.Map g.S.Memory g.V.Rule g.R.Rule x so c.args.tenure.now.machine c.args.block c.args.size c.read.new.self (c.read.ensures.kept so.memory) (c.read.ensures.same so.memory) (c.read.ensures.blocks so.memory) in
-          length_rejects g.M.Map g.S.Memory g.V.Rule g.R.Rule x so c.args.tenure.now.machine c.args.block c.args.size (sym c.in_ok-admit.ensures) (sym c.in_ok-check-tenure.ensures) c.read.new.self al c.in_ok-beside.field-0 (sym (c.read.ensures.answer so.memory) ∙ f) c.if-size-ne-BLOCK-WORDS.true;
+          length_rejects g.M.Map g.S.Memory g.V.Rule g.R.Rule x so c.args.tenure.now.machine c.args.block c.args.size (sym c.in_ok-admit.ensures) (sym c.in_ok-check_tenure.ensures) c.read.new.self al c.in_ok-beside.field-0 (sym (c.read.ensures.answer so.memory) ∙ f) c.if-size-ne-BLOCK_WORDS.true;
       words = tt;
       held = refl;
       number = refl;
@@ -71,8 +71,8 @@ returns g c =
     record {
       found = λ so.
           let al = read_alike g.M.Map g.S.Memory g.V.Rule g.R.Rule x so c.args.tenure.now.machine c.args.block c.args.size c.read.new.self (c.read.ensures.kept so.memory) (c.read.ensures.same so.memory) (c.read.ensures.blocks so.memory) in
-          checks g.M.Map g.S.Memory g.V.Rule g.R.Rule x so c.args.tenure.now.machine c.args.block c.args.size (sym c.in_ok-admit.ensures) (sym c.in_ok-check-tenure.ensures) c.read.new.self al c.in_ok-beside.field-0 (sym (c.read.ensures.answer so.memory) ∙ f) c.if-size-ne-BLOCK-WORDS.false;
-      words = c.if-size-ne-BLOCK-WORDS.false;
+          checks g.M.Map g.S.Memory g.V.Rule g.R.Rule x so c.args.tenure.now.machine c.args.block c.args.size (sym c.in_ok-admit.ensures) (sym c.in_ok-check_tenure.ensures) c.read.new.self al c.in_ok-beside.field-0 (sym (c.read.ensures.answer so.memory) ∙ f) c.if-size-ne-BLOCK_WORDS.false;
+      words = c.if-size-ne-BLOCK_WORDS.false;
       held = refl;
       number = refl;
       setup = refl;

@@ -12,27 +12,27 @@ use Rattle.machine.proofs.Checking.{beside_err, beside_ok}
 use Rattle.machine.proofs.Transferring.{read_ends, read_fits, read_stops, seen}
 use Rattle.machine.proofs.machine.Machine.device_read.Goals as goal
 
-pub returns-in_err-check-transfer : goal.returns-in_err-check-transfer
-returns-in_err-check-transfer g c =
+pub returns-in_err-check_transfer : goal.returns-in_err-check_transfer
+returns-in_err-check_transfer g c =
     let x = c.args.self.now in
-    let y = c.check-transfer.new.self in
-    let e = c.in_err-check-transfer.field-0.0 in
+    let y = c.check_transfer.new.self in
+    let e = c.in_err-check_transfer.field-0.0 in
     let ws = c.args.words.now in
     let p = err_from_is_err_and c.from_residual.result c.from_residual.ensures.1 in
     rw (p.1, p.2)
     (record {
       call = performs g.M.Map g.S.Memory g.V.Rule g.R.Rule (device_reading c.args.tenure.now.machine c.args.block.0 (length ws)) x y (DeviceReads c.args.block ws ws (Err e)) (record { chosen = g.met.V.Rule.chosen x.v_rule }) (record { chosen = g.met.R.Rule.chosen x.r_rule })
-          (λ u h H. read_stops g.M.Map g.S.Memory g.V.Rule g.R.Rule x y c.args.tenure.now.machine c.args.block ws e (c.in_err-check-transfer.ensures.found H.sound));
+          (λ u h H. read_stops g.M.Map g.S.Memory g.V.Rule g.R.Rule x y c.args.tenure.now.machine c.args.block ws e (c.in_err-check_transfer.ensures.found H.sound));
       kept = refl;
-      held = c.check-transfer.ensures.held;
-      number = c.check-transfer.ensures.number;
-      setup = c.check-transfer.ensures.setup;
+      held = c.check_transfer.ensures.held;
+      number = c.check_transfer.ensures.number;
+      setup = c.check_transfer.ensures.setup;
     })
 
 pub returns-in_err-read : goal.returns-in_err-read
 returns-in_err-read g c =
     let x = c.args.self.now in
-    let y = c.check-transfer.new.self in
+    let y = c.check_transfer.new.self in
     let e = c.in_err-read.field-0.0 in
     let ws = c.args.words.now in
     let f = beside_err c.read.result Device e (sym c.in_err-read.ensures) in
@@ -40,20 +40,20 @@ returns-in_err-read g c =
     rw (p.1, p.2)
     (record {
       call = λ u h H.
-          let F = c.in_ok-check-transfer.ensures.found H.sound in
+          let F = c.in_ok-check_transfer.ensures.found H.sound in
           let sn = seen g.M.Map g.S.Memory g.V.Rule g.R.Rule x y c.args.tenure.now.machine c.args.block ws F (record { chosen = g.met.V.Rule.chosen x.v_rule }) (record { chosen = g.met.R.Rule.chosen x.r_rule }) u h H in
           let sh = c.share-shared.ensures sn F.alike.sound.memory F.below in
           absurd (read_fits g.M.Map g.S.Memory g.V.Rule g.R.Rule x y c.args.tenure.now.machine c.args.block ws F c.share-shared.new.memory e.0 sh.count (sym (c.read.ensures.answer sh.sound) ∙ f.0));
       kept = refl;
-      held = c.check-transfer.ensures.held;
-      number = c.check-transfer.ensures.number;
-      setup = c.check-transfer.ensures.setup;
+      held = c.check_transfer.ensures.held;
+      number = c.check_transfer.ensures.number;
+      setup = c.check_transfer.ensures.setup;
     })
 
 pub returns : goal.returns
 returns g c =
     let x = c.args.self.now in
-    let y = c.check-transfer.new.self in
+    let y = c.check_transfer.new.self in
     let ws = c.args.words.now in
     let w = c.copy_from_slice.new.self in
     let f = beside_ok c.read.result Device c.in_ok-read.read (sym c.in_ok-read.ensures) in
@@ -62,13 +62,13 @@ returns g c =
     record {
       call = performs g.M.Map g.S.Memory g.V.Rule g.R.Rule (device_reading c.args.tenure.now.machine c.args.block.0 (length ws)) x z (DeviceReads c.args.block ws w q) (record { chosen = g.met.V.Rule.chosen x.v_rule }) (record { chosen = g.met.R.Rule.chosen x.r_rule })
           (λ u h H.
-          let F = c.in_ok-check-transfer.ensures.found H.sound in
+          let F = c.in_ok-check_transfer.ensures.found H.sound in
           let sn = seen g.M.Map g.S.Memory g.V.Rule g.R.Rule x y c.args.tenure.now.machine c.args.block ws F (record { chosen = g.met.V.Rule.chosen x.v_rule }) (record { chosen = g.met.R.Rule.chosen x.r_rule }) u h H in
           let sh = c.share-shared.ensures sn F.alike.sound.memory F.below in
           read_ends g.M.Map g.S.Memory g.V.Rule g.R.Rule x y c.args.tenure.now.machine c.args.block ws F c.share-shared.new.processors c.share-shared.new.memory c.read.new.self c.share-shared.result w c.saturating_add-self.result sh
           (c.read.ensures.kept sh.sound) (c.read.ensures.same sh.sound) (c.read.ensures.blocks sh.sound) (sym (c.read.ensures.answer sh.sound) ∙ f ∙ ap {B = Result (List ℕ) MemoryFault} (λ (l : List ℕ). Ok l) (sym c.copy_from_slice.ensures.after)) (one_more y.accepted c.saturating_add-self.result F.room c.saturating_add-self.ensures));
       kept = tt;
-      held = c.check-transfer.ensures.held;
-      number = c.check-transfer.ensures.number;
-      setup = c.check-transfer.ensures.setup;
+      held = c.check_transfer.ensures.held;
+      number = c.check_transfer.ensures.number;
+      setup = c.check_transfer.ensures.setup;
     }

@@ -11,54 +11,54 @@ use Rattle.machine.proofs.Checking.{beside_err}
 use Rattle.machine.proofs.Transferring.{seen, write_ends, write_fits, write_stops}
 use Rattle.machine.proofs.machine.Machine.device_write.Goals as goal
 
-pub returns-in_err-check-transfer : goal.returns-in_err-check-transfer
-returns-in_err-check-transfer g c =
+pub returns-in_err-check_transfer : goal.returns-in_err-check_transfer
+returns-in_err-check_transfer g c =
     let x = c.args.self.now in
-    let y = c.check-transfer.new.self in
-    let e = c.in_err-check-transfer.field-0.0 in
+    let y = c.check_transfer.new.self in
+    let e = c.in_err-check_transfer.field-0.0 in
     let ws = c.args.words.now in
     let p = err_from_is_err_and c.from_residual.result c.from_residual.ensures.1 in
     rw (p.1, p.2)
     (record {
       call = performs g.M.Map g.S.Memory g.V.Rule g.R.Rule (device_writing c.args.tenure.now.machine c.args.block.0 ws) x y (DeviceWrites c.args.block (Err e)) (record { chosen = g.met.V.Rule.chosen x.v_rule }) (record { chosen = g.met.R.Rule.chosen x.r_rule })
-          (λ u h H. write_stops g.M.Map g.S.Memory g.V.Rule g.R.Rule x y c.args.tenure.now.machine c.args.block ws e (c.in_err-check-transfer.ensures.found H.sound));
-      held = c.check-transfer.ensures.held;
-      number = c.check-transfer.ensures.number;
-      setup = c.check-transfer.ensures.setup;
+          (λ u h H. write_stops g.M.Map g.S.Memory g.V.Rule g.R.Rule x y c.args.tenure.now.machine c.args.block ws e (c.in_err-check_transfer.ensures.found H.sound));
+      held = c.check_transfer.ensures.held;
+      number = c.check_transfer.ensures.number;
+      setup = c.check_transfer.ensures.setup;
     })
 
 pub returns-in_err-beside : goal.returns-in_err-beside
 returns-in_err-beside g c =
     let x = c.args.self.now in
-    let y = c.check-transfer.new.self in
+    let y = c.check_transfer.new.self in
     let e = c.in_err-beside.field-0.0 in
     let f = beside_err c.write.result Device e (sym c.in_err-beside.ensures) in
     let p = err_from_is_err_and c.from_residual-in_err-beside.result c.from_residual-in_err-beside.ensures.1 in
     rw (p.1, p.2)
     (record {
       call = λ u h H.
-          let F = c.in_ok-check-transfer.ensures.found H.sound in
+          let F = c.in_ok-check_transfer.ensures.found H.sound in
           absurd (write_fits g.M.Map g.S.Memory g.V.Rule g.R.Rule x y c.args.tenure.now.machine c.args.block c.args.words.now F e.0 (sym (c.write.ensures.answer F.alike.sound.memory) ∙ f.0));
-      held = c.check-transfer.ensures.held;
-      number = c.check-transfer.ensures.number;
-      setup = c.check-transfer.ensures.setup;
+      held = c.check_transfer.ensures.held;
+      number = c.check_transfer.ensures.number;
+      setup = c.check_transfer.ensures.setup;
     })
 
 pub returns : goal.returns
 returns g c =
     let x = c.args.self.now in
-    let y = c.check-transfer.new.self in
+    let y = c.check_transfer.new.self in
     let ws = c.args.words.now in
     let z = with g.M.Map g.S.Memory g.V.Rule g.R.Rule y c.write.new.self c.invalidate.new.processors c.saturating_add-self.result in
     record {
       call = performs g.M.Map g.S.Memory g.V.Rule g.R.Rule (device_writing c.args.tenure.now.machine c.args.block.0 ws) x z (DeviceWrites c.args.block (Ok (message DeviceWrite device no_data c.args.block.0))) (record { chosen = g.met.V.Rule.chosen x.v_rule }) (record { chosen = g.met.R.Rule.chosen x.r_rule })
           (λ u h H.
-          let F = c.in_ok-check-transfer.ensures.found H.sound in
+          let F = c.in_ok-check_transfer.ensures.found H.sound in
           let sn = seen g.M.Map g.S.Memory g.V.Rule g.R.Rule x y c.args.tenure.now.machine c.args.block ws F (record { chosen = g.met.V.Rule.chosen x.v_rule }) (record { chosen = g.met.R.Rule.chosen x.r_rule }) u h H in
           let sy = F.alike.sound.memory in
           write_ends g.M.Map g.S.Memory g.V.Rule g.R.Rule x y c.args.tenure.now.machine c.args.block ws F c.invalidate.new.processors c.write.new.self c.copy_from_slice.new.self c.saturating_add-self.result (c.invalidate.ensures sn)
           (c.write.ensures.kept sy) (c.write.ensures.same sy) (c.write.ensures.blocks sy) c.copy_from_slice.ensures.after (one_more y.accepted c.saturating_add-self.result F.room c.saturating_add-self.ensures));
-      held = c.check-transfer.ensures.held;
-      number = c.check-transfer.ensures.number;
-      setup = c.check-transfer.ensures.setup;
+      held = c.check_transfer.ensures.held;
+      number = c.check_transfer.ensures.number;
+      setup = c.check_transfer.ensures.setup;
     }

@@ -34,5 +34,5 @@ returns g c =
     let lr : Lawful (rule_of g.R.Rule x.r_rule) = record { chosen = g.met.R.Rule.chosen x.r_rule } in
     let changes : Changes g.M.Map g.S.Memory g.V.Rule g.R.Rule x.map c.enter.new.self c.args.process.0 c.args.page (Some c.args.frame.0) (enters c.args.process c.args.page c.args.frame) c.enter.result = record { kept = c.enter.ensures.kept; answer = c.enter.ensures.answer; frames = c.enter.ensures.frames } in
     remap_ends g.M.Map g.S.Memory g.V.Rule g.R.Rule x lv lr (entering c.args.process.0 c.args.page.0 c.args.frame.0) c.args.process.0 c.args.page c.args.frame.0 (Some c.args.frame.0) (enters c.args.process c.args.page c.args.frame) refl (enter_range c.args.process.0 c.args.page.0 c.args.frame.0)
-    c.in_ok-admit.ensures c.enter.new.self c.enter.result changes c.swap-pages.new.processors c.saturating_add-self.result
-    c.in_ok-beside.ensures c.swap-pages.ensures c.saturating_add-self.ensures
+    c.in_ok-admit.ensures c.enter.new.self c.enter.result changes c.swap_pages.new.processors c.saturating_add-self.result
+    c.in_ok-beside.ensures c.swap_pages.ensures c.saturating_add-self.ensures

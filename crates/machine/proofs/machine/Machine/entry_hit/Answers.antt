@@ -33,9 +33,9 @@ returns g c = λ f A F.
     let ec = c.cpu-cpu.ensures.value (here_few g.M.Map g.S.Memory g.V.Rule g.R.Rule x r b w f A F.0 F.1) in
     let eh = ap (λ n. n % r_sets) c.number.ensures in
     let ls : c.set.result < v_sets = subst (λ (z : ℕ). z < v_sets) (sym c.set.ensures) (v_set_in (ref_of r).vb) in
-    let ee = here_entry g.M.Map g.S.Memory g.V.Rule g.R.Rule x r b w f A F.0 F.1 c.entry-at-child.result c.cpu-cpu.result (c.number.result % r_sets) ec eh c.entry-at-child.ensures in
+    let ee = here_entry g.M.Map g.S.Memory g.V.Rule g.R.Rule x r b w f A F.0 F.1 c.entry_at-child.result c.cpu-cpu.result (c.number.result % r_sets) ec eh c.entry_at-child.ensures in
     let cl = here_claim g.M.Map g.S.Memory g.V.Rule g.R.Rule x r b w f A F.0 F.1 (c.number.result % r_sets) eh _ c.claim.new.processors (Ok c.in_ok-sent.sent) (set-get_or x.processors c.cpu-cpu.result no_processor) c.in_ok-sent.ensures in
-    here_ends g.M.Map g.S.Memory g.V.Rule g.R.Rule x r b w f A F.0 F.1 law c.claim.new.processors c.finish-word.new.processors c.attach-found.new.p c.in_ok-sent.sent c.attach-found.result c.entry-at-child.result
+    here_ends g.M.Map g.S.Memory g.V.Rule g.R.Rule x r b w f A F.0 F.1 law c.claim.new.processors c.finish-word.new.processors c.attach-found.new.p c.in_ok-sent.sent c.attach-found.result c.entry_at-child.result
     c.cpu-cpu.result c.set.result c.word.result c.block.result.0 c.finish-word.result c.saturating_add-self.result ec c.set.ensures c.word.ensures.value c.block.ensures ee cl
     c.attach-found.ensures
     (λ lw rg fl. c.finish-word.ensures.processors c.cpu-cpu.ensures.within rg fl ls lw c.word.ensures.within)

@@ -18,12 +18,12 @@ returns-in_err-words g c = λ f A F.
     let lv : Lawful (rules_of g.M.Map g.S.Memory g.V.Rule g.R.Rule x).for_v = record { chosen = g.met.V.Rule.chosen x.v_rule } in
     let lr : Lawful (rules_of g.M.Map g.S.Memory g.V.Rule g.R.Rule x).for_r = record { chosen = g.met.R.Rule.chosen x.r_rule } in
     let ec = c.cpu-cpu.ensures.value (miss_few g.M.Map g.S.Memory g.V.Rule g.R.Rule x r b f A F.0 F.1 lv lr) in
-    let rm = miss_room g.M.Map g.S.Memory g.V.Rule g.R.Rule x r b f A F.0 F.1 lv lr c.cpu-cpu.result c.block-tag.result.0 c.make-room-room.new.p c.make-room-room.result ec c.block-tag.ensures c.make-room-room.ensures.room in
-    let bk = miss_back g.M.Map g.S.Memory g.V.Rule g.R.Rule x r b f A F.0 F.1 lv lr c.cpu-cpu.result c.block-tag.result.0 c.make-room-room.new.p c.make-room-room.result ec rm c.write-back.new.memory c.write-back.ensures in
+    let rm = miss_room g.M.Map g.S.Memory g.V.Rule g.R.Rule x r b f A F.0 F.1 lv lr c.cpu-cpu.result c.block-tag.result.0 c.make_room-room.new.p c.make_room-room.result ec c.block-tag.ensures c.make_room-room.ensures.room in
+    let bk = miss_back g.M.Map g.S.Memory g.V.Rule g.R.Rule x r b f A F.0 F.1 lv lr c.cpu-cpu.result c.block-tag.result.0 c.make_room-room.new.p c.make_room-room.result ec rm c.write_back.new.memory c.write_back.ensures in
     let ez = c.is_some-exclusive.ensures ∙ write_is r.value in
-    let fe = miss_fetch g.M.Map g.S.Memory g.V.Rule g.R.Rule x r b f A F.0 F.1 lv lr c.cpu-cpu.result c.block-tag.result.0 c.make-room-room.new.p c.make-room-room.result ec rm c.write-back.new.memory bk c.is_some-exclusive.result ez
+    let fe = miss_fetch g.M.Map g.S.Memory g.V.Rule g.R.Rule x r b f A F.0 F.1 lv lr c.cpu-cpu.result c.block-tag.result.0 c.make_room-room.new.p c.make_room-room.result ec rm c.write_back.new.memory bk c.is_some-exclusive.result ez
     c.fetch-shared.new.processors c.fetch-shared.new.memory c.fetch-shared.result c.fetch-shared.ensures in
-    let lb = miss_below g.M.Map g.S.Memory g.V.Rule g.R.Rule x r b f A F.0 F.1 lv lr c.cpu-cpu.result c.block-tag.result.0 c.make-room-room.new.p c.make-room-room.result ec rm c.write-back.new.memory bk c.is_some-exclusive.result ez
+    let lb = miss_below g.M.Map g.S.Memory g.V.Rule g.R.Rule x r b f A F.0 F.1 lv lr c.cpu-cpu.result c.block-tag.result.0 c.make_room-room.new.p c.make_room-room.result ec rm c.write_back.new.memory bk c.is_some-exclusive.result ez
     c.fetch-shared.new.processors c.fetch-shared.new.memory c.fetch-shared.result fe in
     absurd (read_never (g.S.Memory.count c.fetch-shared.new.memory) (g.S.Memory.holds c.fetch-shared.new.memory) c.args.block lb c.read.result (c.read.ensures.answer fe.sound) (Processor r.processor) c.beside.result c.beside.ensures c.in_err-words.field-0.0 c.in_err-words.was)
 
@@ -36,25 +36,25 @@ returns g c = λ f A F.
     let lv : Lawful (rules_of g.M.Map g.S.Memory g.V.Rule g.R.Rule x).for_v = record { chosen = g.met.V.Rule.chosen x.v_rule } in
     let lr : Lawful (rules_of g.M.Map g.S.Memory g.V.Rule g.R.Rule x).for_r = record { chosen = g.met.R.Rule.chosen x.r_rule } in
     let ec = c.cpu-cpu.ensures.value (miss_few g.M.Map g.S.Memory g.V.Rule g.R.Rule x r b f A F.0 F.1 lv lr) in
-    let rm = miss_room g.M.Map g.S.Memory g.V.Rule g.R.Rule x r b f A F.0 F.1 lv lr c.cpu-cpu.result c.block-tag.result.0 c.make-room-room.new.p c.make-room-room.result ec c.block-tag.ensures c.make-room-room.ensures.room in
-    let bk = miss_back g.M.Map g.S.Memory g.V.Rule g.R.Rule x r b f A F.0 F.1 lv lr c.cpu-cpu.result c.block-tag.result.0 c.make-room-room.new.p c.make-room-room.result ec rm c.write-back.new.memory c.write-back.ensures in
+    let rm = miss_room g.M.Map g.S.Memory g.V.Rule g.R.Rule x r b f A F.0 F.1 lv lr c.cpu-cpu.result c.block-tag.result.0 c.make_room-room.new.p c.make_room-room.result ec c.block-tag.ensures c.make_room-room.ensures.room in
+    let bk = miss_back g.M.Map g.S.Memory g.V.Rule g.R.Rule x r b f A F.0 F.1 lv lr c.cpu-cpu.result c.block-tag.result.0 c.make_room-room.new.p c.make_room-room.result ec rm c.write_back.new.memory c.write_back.ensures in
     let ez = c.is_some-exclusive.ensures ∙ write_is r.value in
-    let fe = miss_fetch g.M.Map g.S.Memory g.V.Rule g.R.Rule x r b f A F.0 F.1 lv lr c.cpu-cpu.result c.block-tag.result.0 c.make-room-room.new.p c.make-room-room.result ec rm c.write-back.new.memory bk c.is_some-exclusive.result ez
+    let fe = miss_fetch g.M.Map g.S.Memory g.V.Rule g.R.Rule x r b f A F.0 F.1 lv lr c.cpu-cpu.result c.block-tag.result.0 c.make_room-room.new.p c.make_room-room.result ec rm c.write_back.new.memory bk c.is_some-exclusive.result ez
     c.fetch-shared.new.processors c.fetch-shared.new.memory c.fetch-shared.result c.fetch-shared.ensures in
-    let lb = miss_below g.M.Map g.S.Memory g.V.Rule g.R.Rule x r b f A F.0 F.1 lv lr c.cpu-cpu.result c.block-tag.result.0 c.make-room-room.new.p c.make-room-room.result ec rm c.write-back.new.memory bk c.is_some-exclusive.result ez
+    let lb = miss_below g.M.Map g.S.Memory g.V.Rule g.R.Rule x r b f A F.0 F.1 lv lr c.cpu-cpu.result c.block-tag.result.0 c.make_room-room.new.p c.make_room-room.result ec rm c.write_back.new.memory bk c.is_some-exclusive.result ez
     c.fetch-shared.new.processors c.fetch-shared.new.memory c.fetch-shared.result fe in
-    let lf = miss_fetched g.M.Map g.S.Memory g.V.Rule g.R.Rule x r b f A F.0 F.1 lv lr c.cpu-cpu.result c.block-tag.result.0 c.make-room-room.new.p c.make-room-room.result ec rm c.write-back.new.memory bk c.is_some-exclusive.result ez
+    let lf = miss_fetched g.M.Map g.S.Memory g.V.Rule g.R.Rule x r b f A F.0 F.1 lv lr c.cpu-cpu.result c.block-tag.result.0 c.make_room-room.new.p c.make_room-room.result ec rm c.write_back.new.memory bk c.is_some-exclusive.result ez
     c.fetch-shared.new.processors c.fetch-shared.new.memory c.fetch-shared.result fe in
     let ww = read_words (g.S.Memory.count c.fetch-shared.new.memory) (g.S.Memory.holds c.fetch-shared.new.memory) c.args.block lb c.read.result (c.read.ensures.answer fe.sound) (Processor r.processor) c.beside.result c.beside.ensures c.in_ok-words.words c.in_ok-words.was
     ∙ sym (block_held g.S.Memory c.fetch-shared.new.memory b lb) in
-    miss_ends g.M.Map g.S.Memory g.V.Rule g.R.Rule x r b f A F.0 F.1 lv lr c.cpu-cpu.result c.block-tag.result.0 c.make-room-room.new.p c.make-room-room.result ec rm c.write-back.new.memory bk c.is_some-exclusive.result ez
+    miss_ends g.M.Map g.S.Memory g.V.Rule g.R.Rule x r b f A F.0 F.1 lv lr c.cpu-cpu.result c.block-tag.result.0 c.make_room-room.new.p c.make_room-room.result ec rm c.write_back.new.memory bk c.is_some-exclusive.result ez
     c.fetch-shared.new.processors c.fetch-shared.new.memory c.fetch-shared.result fe
-    c.read.new.self c.finish-word.new.processors c.install.new.p c.miss-messages.result c.fetched-entry-entry.result c.set.result (c.number.result % r_sets) c.block-tag.result.0 c.word.result c.finish-word.result c.saturating_add-self.result
+    c.read.new.self c.finish-word.new.processors c.install.new.p c.miss_messages.result c.fetched_entry-entry.result c.set.result (c.number.result % r_sets) c.block-tag.result.0 c.word.result c.finish-word.result c.saturating_add-self.result
     c.set.ensures (ap (λ n. n % r_sets) c.number.ensures) c.block-tag.ensures c.word.ensures.value (c.read.ensures.kept fe.sound) (c.read.ensures.same fe.sound)
     (same_blocks g.S.Memory c.fetch-shared.new.memory c.read.new.self (c.read.ensures.same fe.sound) (c.read.ensures.blocks fe.sound))
-    c.if-self.false (c.fetched-entry-entry.ensures ∙ (λ j. record { state = fetch_state c.is_some-exclusive.result c.fetch-shared.result.acked; block = c.args.block; words = ww j; rdirty = false; child = NoChild }))
-    (λ lt lh. c.install.ensures lt c.make-room-room.ensures.lines lh c.make-room-room.ensures.entries lf)
-    (λ lt rg fl. c.finish-word.ensures.processors c.cpu-cpu.ensures.within rg fl lt c.make-room-room.ensures.lines c.word.ensures.within)
-    (λ lt. c.finish-word.ensures.answer c.cpu-cpu.ensures.within lt c.make-room-room.ensures.lines c.word.ensures.within)
-    c.miss-messages.ensures
+    c.if-self.false (c.fetched_entry-entry.ensures ∙ (λ j. record { state = fetch_state c.is_some-exclusive.result c.fetch-shared.result.acked; block = c.args.block; words = ww j; rdirty = false; child = NoChild }))
+    (λ lt lh. c.install.ensures lt c.make_room-room.ensures.lines lh c.make_room-room.ensures.entries lf)
+    (λ lt rg fl. c.finish-word.ensures.processors c.cpu-cpu.ensures.within rg fl lt c.make_room-room.ensures.lines c.word.ensures.within)
+    (λ lt. c.finish-word.ensures.answer c.cpu-cpu.ensures.within lt c.make_room-room.ensures.lines c.word.ensures.within)
+    c.miss_messages.ensures
     (one_more x.accepted c.saturating_add-self.result A.room c.saturating_add-self.ensures)

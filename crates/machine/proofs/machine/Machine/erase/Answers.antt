@@ -34,5 +34,5 @@ returns g c =
     let lr : Lawful (rule_of g.R.Rule x.r_rule) = record { chosen = g.met.R.Rule.chosen x.r_rule } in
     let changes : Changes g.M.Map g.S.Memory g.V.Rule g.R.Rule x.map c.erase.new.self c.args.process.0 c.args.page None (named c.args.process.0 c.args.page.0) c.erase.result = record { kept = c.erase.ensures.kept; answer = c.erase.ensures.answer; frames = c.erase.ensures.frames } in
     remap_ends g.M.Map g.S.Memory g.V.Rule g.R.Rule x lv lr (erasing c.args.process.0 c.args.page.0) c.args.process.0 c.args.page 0 None (named c.args.process.0 c.args.page.0) refl (erase_range c.args.process.0 c.args.page.0)
-    c.in_ok-admit.ensures c.erase.new.self c.erase.result changes c.swap-pages.new.processors c.saturating_add-self.result
-    c.in_ok-beside.ensures c.swap-pages.ensures c.saturating_add-self.ensures
+    c.in_ok-admit.ensures c.erase.new.self c.erase.result changes c.swap_pages.new.processors c.saturating_add-self.result
+    c.in_ok-beside.ensures c.swap_pages.ensures c.saturating_add-self.ensures

@@ -16,11 +16,11 @@ returns-in_err-sent g c = λ f A found.
     let r = c.args.r in
     let w = c.args.way in
     let ec = c.cpu-cpu.ensures.value (few g.M.Map g.S.Memory g.V.Rule g.R.Rule x r w f A found) in
-    let el = hit_line g.M.Map g.S.Memory g.V.Rule g.R.Rule x r w f A found c.line-at.result c.cpu-cpu.result c.set.result ec c.set.ensures c.line-at.ensures in
+    let el = hit_line g.M.Map g.S.Memory g.V.Rule g.R.Rule x r w f A found c.line_at.result c.cpu-cpu.result c.set.result ec c.set.ensures c.line_at.ensures in
     let p = err_from_is_err_and c.from_residual.result c.from_residual.ensures.1 in
     rw (p.1, p.2)
     (hit_stops g.M.Map g.S.Memory g.V.Rule g.R.Rule x r w f A found c.claim.new.processors c.in_err-sent.field-0.0
-    (hit_claim g.M.Map g.S.Memory g.V.Rule g.R.Rule x r w f A found c.line-at.result el _ c.claim.new.processors (Err c.in_err-sent.field-0.0) (set-get_or x.processors c.cpu-cpu.result no_processor) c.in_err-sent.ensures))
+    (hit_claim g.M.Map g.S.Memory g.V.Rule g.R.Rule x r w f A found c.line_at.result el _ c.claim.new.processors (Err c.in_err-sent.field-0.0) (set-get_or x.processors c.cpu-cpu.result no_processor) c.in_err-sent.ensures))
 
 pub returns : goal.returns
 returns g c = λ f A found.
@@ -31,11 +31,11 @@ returns g c = λ f A found.
     let lw = way g.M.Map g.S.Memory g.V.Rule g.R.Rule x r w f A found in
     let ec = c.cpu-cpu.ensures.value lf in
     let ls : c.set.result < v_sets = subst (λ (z : ℕ). z < v_sets) (sym c.set.ensures) (v_set_in (ref_of r).vb) in
-    let el = hit_line g.M.Map g.S.Memory g.V.Rule g.R.Rule x r w f A found c.line-at.result c.cpu-cpu.result c.set.result ec c.set.ensures c.line-at.ensures in
-    let cl = hit_claim g.M.Map g.S.Memory g.V.Rule g.R.Rule x r w f A found c.line-at.result el _ c.claim.new.processors (Ok c.in_ok-sent.sent) (set-get_or x.processors c.cpu-cpu.result no_processor) c.in_ok-sent.ensures in
-    hit_ends g.M.Map g.S.Memory g.V.Rule g.R.Rule x r w f A found c.claim.new.processors c.finish-word.new.processors c.line-used.new.p c.in_ok-sent.sent
+    let el = hit_line g.M.Map g.S.Memory g.V.Rule g.R.Rule x r w f A found c.line_at.result c.cpu-cpu.result c.set.result ec c.set.ensures c.line_at.ensures in
+    let cl = hit_claim g.M.Map g.S.Memory g.V.Rule g.R.Rule x r w f A found c.line_at.result el _ c.claim.new.processors (Ok c.in_ok-sent.sent) (set-get_or x.processors c.cpu-cpu.result no_processor) c.in_ok-sent.ensures in
+    hit_ends g.M.Map g.S.Memory g.V.Rule g.R.Rule x r w f A found c.claim.new.processors c.finish-word.new.processors c.line_used.new.p c.in_ok-sent.sent
     c.cpu-cpu.result c.set.result c.word.result c.finish-word.result c.saturating_add-self.result ec c.set.ensures c.word.ensures.value cl
-    (c.line-used.ensures ls lw)
+    (c.line_used.ensures ls lw)
     (λ rg fl. c.finish-word.ensures.processors c.cpu-cpu.ensures.within rg fl ls lw c.word.ensures.within)
     (c.finish-word.ensures.answer c.cpu-cpu.ensures.within ls lw c.word.ensures.within)
     (one_more x.accepted c.saturating_add-self.result A.room c.saturating_add-self.ensures)

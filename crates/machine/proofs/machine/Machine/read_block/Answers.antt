@@ -31,17 +31,17 @@ returns g c =
     let b = c.args.block in
     let t = c.in_ok-tenure.tenure in
     let E = c.in_ok-tenure.ensures in
-    let after = c.device-read-moved.new.words in
-    let q = c.device-read-moved.result in
+    let after = c.device_read-moved.new.words in
+    let q = c.device_read-moved.result in
     record {
       call = λ u h H.
           let P₀ = E.call u h H in
-          let P₁ = c.device-read-moved.ensures.call u _ P₀.past in
+          let P₁ = c.device_read-moved.ensures.call u _ P₀.past in
           let P₂ = c.in-Ok.ensures.call u _ P₁.past in
-          moves g.M.Map g.S.Memory g.V.Rule g.R.Rule (λ k. device_reading k b.0 (length ws)) u h x (λ _ _ _. refl) c.take.new.self c.device-read-moved.new.self c.release.new.self t.machine
+          moves g.M.Map g.S.Memory g.V.Rule g.R.Rule (λ k. device_reading k b.0 (length ws)) u h x (λ _ _ _. refl) c.take.new.self c.device_read-moved.new.self c.release.new.self t.machine
           (Takes x.number (Ok t)) (DeviceReads b ws after q) (Releases t (Ok tt)) (BlockReads b ws after q) E.live.1 E.number P₀.told.0.number (reads_told b ws after q) P₀ P₁ P₂;
-      kept = c.device-read-moved.ensures.kept;
+      kept = c.device_read-moved.ensures.kept;
       held = c.in-Ok.ensures.held ∙ sym E.free;
-      number = c.release.ensures.number ∙ c.device-read-moved.ensures.number ∙ c.take.ensures.number;
-      setup = c.release.ensures.setup ∙ c.device-read-moved.ensures.setup ∙ c.take.ensures.setup;
+      number = c.release.ensures.number ∙ c.device_read-moved.ensures.number ∙ c.take.ensures.number;
+      setup = c.release.ensures.setup ∙ c.device_read-moved.ensures.setup ∙ c.take.ensures.setup;
     }

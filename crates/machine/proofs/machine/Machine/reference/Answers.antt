@@ -25,8 +25,8 @@ returns-in_err-locate g c = λ u h P.
     (refer_missing g.M.Map g.S.Memory g.V.Rule g.R.Rule x c.args.processor c.args.address c.args.value P.sound O c.in_err-locate.field-0.0 c.in_err-locate.ensures
     (few g.M.Map g.S.Memory g.V.Rule g.R.Rule x lv lr u h P O.setup))
 
-pub returns-in_default-find-line : goal.returns-in_default-find-line
-returns-in_default-find-line g c = λ u h P.
+pub returns-in_default-find_line : goal.returns-in_default-find_line
+returns-in_default-find_line g c = λ u h P.
     let x = c.args.self.now in
     let lv : Lawful (rules_of g.M.Map g.S.Memory g.V.Rule g.R.Rule x).for_v = record { chosen = g.met.V.Rule.chosen x.v_rule } in
     let lr : Lawful (rules_of g.M.Map g.S.Memory g.V.Rule g.R.Rule x).for_r = record { chosen = g.met.R.Rule.chosen x.r_rule } in
@@ -35,7 +35,7 @@ returns-in_default-find-line g c = λ u h P.
     let L = c.in_ok-locate.ensures in
     let a = an_address c.args.address c.in-Some.address (sym c.in-Some.ensures) in
     let ec = c.cpu.ensures.value (subst (λ (z : ℕ). z < most_processors) L.place L.within) in
-    let es : v_find (proc_at x.processors c.args.processor.0) (block_of c.in-Some.address.0) ≡ None = sym (c.in_default-find-line.ensures.way ∙ (λ j. v_find (proc_at x.processors (ec j)) (c.block.ensures j))) in
+    let es : v_find (proc_at x.processors c.args.processor.0) (block_of c.in-Some.address.0) ≡ None = sym (c.in_default-find_line.ensures.way ∙ (λ j. v_find (proc_at x.processors (ec j)) (c.block.ensures j))) in
     refer_goes g.M.Map g.S.Memory g.V.Rule g.R.Rule x c.args.processor c.args.address c.args.value P.sound O L.below R.0 R.1 c.in-Some.address a.0 a.1 x.processors refl c.miss.new.self c.miss.result None es
     (c.miss.ensures R.0 (refer_admitted g.M.Map g.S.Memory g.V.Rule g.R.Rule x c.args.processor c.args.address c.args.value P.sound O L.below R.0 R.1 c.in-Some.address a.0 a.1 x.processors refl)
     (subst (λ (z : ℕ). z < addresses) (sym a.0) a.1))
@@ -50,6 +50,6 @@ returns g c = λ u h P.
     let L = c.in_ok-locate.ensures in
     let a = an_address c.args.address c.in-Some.address (sym c.in-Some.ensures) in
     let ec = c.cpu.ensures.value (subst (λ (z : ℕ). z < most_processors) L.place L.within) in
-    let es : v_find (proc_at x.processors c.args.processor.0) (block_of c.in-Some.address.0) ≡ Some c.in-Some-find-line.way = sym (c.in-Some-find-line.ensures.way ∙ (λ j. v_find (proc_at x.processors (ec j)) (c.block.ensures j))) in
-    refer_goes g.M.Map g.S.Memory g.V.Rule g.R.Rule x c.args.processor c.args.address c.args.value P.sound O L.below R.0 R.1 c.in-Some.address a.0 a.1 x.processors refl c.hit.new.self c.hit.result (Some c.in-Some-find-line.way) es
+    let es : v_find (proc_at x.processors c.args.processor.0) (block_of c.in-Some.address.0) ≡ Some c.in-Some-find_line.way = sym (c.in-Some-find_line.ensures.way ∙ (λ j. v_find (proc_at x.processors (ec j)) (c.block.ensures j))) in
+    refer_goes g.M.Map g.S.Memory g.V.Rule g.R.Rule x c.args.processor c.args.address c.args.value P.sound O L.below R.0 R.1 c.in-Some.address a.0 a.1 x.processors refl c.hit.new.self c.hit.result (Some c.in-Some-find_line.way) es
     (c.hit.ensures R.0 (refer_admitted g.M.Map g.S.Memory g.V.Rule g.R.Rule x c.args.processor c.args.address c.args.value P.sound O L.below R.0 R.1 c.in-Some.address a.0 a.1 x.processors refl) es)

@@ -35,4 +35,4 @@ returns g c =
     let lv : Lawful (rule_of g.V.Rule x.v_rule) = record { chosen = g.met.V.Rule.chosen x.v_rule } in
     let lr : Lawful (rule_of g.R.Rule x.r_rule) = record { chosen = g.met.R.Rule.chosen x.r_rule } in
     switch_ends g.M.Map g.S.Memory g.V.Rule g.R.Rule x lv lr c.args.processor c.args.process.0 c.in_ok-admit.ensures c.in_ok-cpu.cpu c.in_ok-cpu.ensures c.if-process-ge-PROCESSES.false
-    c.swap-lines.new.p c.saturating_add-self.result c.swap-lines.ensures c.saturating_add-self.ensures
+    c.swap_lines.new.p c.saturating_add-self.result c.swap_lines.ensures c.saturating_add-self.ensures

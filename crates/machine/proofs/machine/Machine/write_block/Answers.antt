@@ -30,15 +30,15 @@ returns g c =
     let b = c.args.block in
     let t = c.in_ok-tenure.tenure in
     let E = c.in_ok-tenure.ensures in
-    let q = c.device-write-moved.result in
+    let q = c.device_write-moved.result in
     record {
       call = λ u h H.
           let P₀ = E.call u h H in
-          let P₁ = c.device-write-moved.ensures.call u _ P₀.past in
+          let P₁ = c.device_write-moved.ensures.call u _ P₀.past in
           let P₂ = c.in-Ok.ensures.call u _ P₁.past in
-          moves g.M.Map g.S.Memory g.V.Rule g.R.Rule (λ k. device_writing k b.0 ws) u h x (λ _ _ _. refl) c.take.new.self c.device-write-moved.new.self c.release.new.self t.machine
+          moves g.M.Map g.S.Memory g.V.Rule g.R.Rule (λ k. device_writing k b.0 ws) u h x (λ _ _ _. refl) c.take.new.self c.device_write-moved.new.self c.release.new.self t.machine
           (Takes x.number (Ok t)) (DeviceWrites b q) (Releases t (Ok tt)) (BlockWrites b q) E.live.1 E.number P₀.told.0.number (writes_told b q) P₀ P₁ P₂;
       held = c.in-Ok.ensures.held ∙ sym E.free;
-      number = c.release.ensures.number ∙ c.device-write-moved.ensures.number ∙ c.take.ensures.number;
-      setup = c.release.ensures.setup ∙ c.device-write-moved.ensures.setup ∙ c.take.ensures.setup;
+      number = c.release.ensures.number ∙ c.device_write-moved.ensures.number ∙ c.take.ensures.number;
+      setup = c.release.ensures.setup ∙ c.device_write-moved.ensures.setup ∙ c.take.ensures.setup;
     }
