@@ -23,7 +23,8 @@ list_words-requires c =
     let few = words_length c.args.bytes.now in
     let is = ap length c.in_ok-words.ensures in
     let own = c.in_ok-words.words.ok.0 in
-    let cap = c.in_ok-out-2.ensures.made in
+    let none = c.in_ok-out-2.ensures.len in
+    let cap = c.in_ok-out-2.ensures.capacity in
     let here = c.deref.ensures.len in
     record { few = omega arith; room = omega arith }
 
