@@ -5,8 +5,8 @@ use Rattle.rules.specs.Calls.{Board}
 use Rattle.rules.specs.Run.{Call, perform}
 use Rattle.rules.specs.History.{History, event}
 use Rattle.rules.specs.Laws.{Past, begun, called}
-use Rattle.rules.specs.Listing.{fresh, fresh_setup, lru_rules, no_frames, zero_blocks}
-use Rattle.rules.specs.Exhibit.{Exhibited, board_after, exhibit, history_after}
+use Rattle.rules.specs.Listing.{fresh, lru_rules, no_frames, zero_blocks}
+use Rattle.rules.specs.Exhibit.{Exhibited, board_after, exhibit, fresh_setup, history_after}
 use Rattle.replacement.specs.Choices.{oldest_lawful}
 
 runs_on : (cs : List Call) (b : Board) (h : History) → Past lru_rules fresh_setup h b → Past lru_rules fresh_setup (history_after cs b h) (board_after cs b)

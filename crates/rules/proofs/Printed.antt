@@ -18,7 +18,8 @@ use Rattle.rules.specs.Run.{Call, reading, writing, switching, entering, erasing
 use Rattle.rules.specs.Sound.{translate}
 use Rattle.rules.specs.History.{Event, Read as HadRead, Wrote, Switched, Entered, Erased, DeviceHadRead, DeviceWrote, Nothing, History, Latest, written, at_setup, Setup, Stores, accepted, event, event_by, first_word, physical_block, process_at, table_at, word_in}
 use Rattle.rules.specs.Laws.{Past, begun}
-use Rattle.rules.specs.Listing.{fresh, fresh_setup, line_of, lines_from, lru_rules, no_frames, played, transfer_by, transferred, zero_blocks}
+use Rattle.rules.specs.Exhibit.{fresh_setup}
+use Rattle.rules.specs.Listing.{fresh, line_of, lines_from, lru_rules, no_frames, played, transfer_by, transferred, zero_blocks}
 use Rattle.rules.specs.Printed.{ListingsPrintLatestWrites, Prints, PrintsLatest, did, done, done_by}
 use Rattle.rules.proofs.Latest.{latest, stored_at, word_at}
 use Rattle.rules.proofs.Runs.{Fine, Said, call_next, past_held}

@@ -6,9 +6,9 @@ use Rattle.lines.specs.declared.line.Level.TheVariants.{VHit, Synonym, Miss, NoR
 use Rattle.rules.specs.Rule.{Lawful, lru}
 use Rattle.rules.specs.Calls.{Answer, Board}
 use Rattle.rules.specs.Run.{Call, reading, writing, switching, entering, taking, releasing, device_reading, device_writing, counts_reading, perform}
-use Rattle.rules.specs.History.{History, event}
+use Rattle.rules.specs.History.{History, Setup, event}
 use Rattle.rules.specs.Laws.{Past}
-use Rattle.rules.specs.Listing.{fresh, fresh_setup, lru_rules}
+use Rattle.rules.specs.Listing.{fresh, lru_rules, no_frames, zero_blocks}
 
 -- what a caller sees of a call: the number, the level, the word, the four words of a device read, the message words
 pub record Saw : Type 0 where
@@ -32,6 +32,9 @@ board_after (c ∷ cs) b = board_after cs (perform lru_rules c b).after
 abbrev pub history_after : List Call → Board → History → History
 history_after [] b h = h
 history_after (c ∷ cs) b h = let s = perform lru_rules c b in history_after cs s.after (event c s ∷ h)
+
+abbrev pub fresh_setup : Setup
+fresh_setup = record { table = no_frames; blocks = zero_blocks }
 
 -- pages 0, 2 and 9 of process 0 at frame 5; pages 4, 6, 8, 10 and 12 at frames 21, 25, 29, 33 and 37, whose blocks
 -- share the R-sets of frame 5

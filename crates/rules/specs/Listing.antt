@@ -15,7 +15,6 @@ use Rattle.rules.specs.Sizes.{most_processors}
 use Rattle.rules.specs.Rule.{lru}
 use Rattle.rules.specs.Cache.{zeros}
 use Rattle.rules.specs.Calls.{Board, Rules, Step, made, reference, switch, enter, erase, take, release, device_read, device_write}
-use Rattle.rules.specs.History.{Setup}
 
 -- a device record takes the bus itself and releases it, its transfer refused or not
 abbrev pub transfer_by : ℕ → (Board → Step) → Step → Step
@@ -75,10 +74,6 @@ no_frames q g = None
 
 abbrev pub fresh : Board
 fresh = made lru_rules most_processors 0 zero_blocks most_blocks no_frames
-
--- what its set-up gives
-abbrev pub fresh_setup : Setup
-fresh_setup = record { table = no_frames; blocks = zero_blocks }
 
 abbrev pub lines_of : Trace → List Line
 lines_of t = lines_from lru_rules 0 fresh t.records t.fault

@@ -7,7 +7,8 @@ use Rattle.records.specs.declared.record.Record.TheVariants.{Read, Write, Switch
 use Rattle.records.specs.Traces.{Trace}
 use Rattle.rules.specs.Calls.{Answer}
 use Rattle.rules.specs.History.{Event, Read as HadRead, Wrote, Switched, Entered, Erased, DeviceHadRead, DeviceWrote, Nothing, History, Latest, Setup, first_word, physical_block, word_in}
-use Rattle.rules.specs.Listing.{fresh_setup, lines_of}
+use Rattle.rules.specs.Listing.{lines_of}
+use Rattle.rules.specs.Exhibit.{fresh_setup}
 
 -- the answer that a line shows
 abbrev pub shown : Line → Answer
