@@ -1,5 +1,5 @@
 -- A run of a trace's words, record by record.
-use Rattle.std.proofs.Common.{◌≡◌, ℕ, zero, suc, ◌+◌, ◌<◌, Bool, true, false, List, [], ◌∷◌, ◌++◌, length, Some, None, Ok, Err, Option, Result, sym, refl, ap, ◌∙◌, subst, append_assoc, arith}
+use Rattle.std.proofs.Common.{◌≡◌, ℕ, zero, suc, ◌+◌, ◌<◌, Bool, true, false, List, [], ◌∷◌, ◌++◌, length, Some, None, Ok, Err, Option, Result, sym, refl, ap, ◌∙◌, append_assoc, arith}
 use Rattle.std.proofs.lemmas.List.{append-nil}
 use Rattle.base.specs.Sizes.{block_words}
 use Rattle.memory.specs.declared.memory.Memory as memories
@@ -10,10 +10,9 @@ use Rattle.records.specs.declared.fault.FormatFault.TheVariants.{CutShort}
 use Rattle.records.specs.declared.record.Record.{Record}
 use Rattle.records.specs.declared.record.Record.TheVariants.{Read, Write, Switch, Enter, Erase, DeviceRead, DeviceWrite}
 use Rattle.records.specs.Records.{decoded}
-use Rattle.records.specs.Traces.{Trace, ended, stopped, trace_from}
+use Rattle.records.specs.Traces.{ended, trace_from}
 use Rattle.records.proofs.Steps.{trace_ends, trace_more, trace_stops}
 use Rattle.lines.specs.declared.line.Line.{Line}
-use Rattle.lines.specs.declared.line.Level.TheVariants.{NoReference}
 use Rattle.lines.specs.Lines.{line_bytes}
 use Rattle.memory.specs.declared.fault.MemoryFault.{MemoryFault}
 use Rattle.memory.specs.declared.fault.MemoryFault.TheVariants.{Outside}

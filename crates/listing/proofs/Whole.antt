@@ -1,12 +1,12 @@
 -- The listing of a whole trace.
-use Rattle.std.proofs.Common.{◌≡◌, ℕ, zero, suc, ◌+◌, ◌*◌, ◌<◌, ◌≤◌, Bool, true, false, cond, ltb, List, [], ◌∷◌, ◌++◌, length, get_or, replicate, Option, sym, refl, ap, ◌∙◌, subst, arith}
+use Rattle.std.proofs.Common.{◌≡◌, ℕ, zero, suc, ◌+◌, ◌*◌, ◌<◌, ◌≤◌, Bool, true, false, cond, ltb, List, [], ◌∷◌, ◌++◌, length, get_or, replicate, Option, sym, refl, ap, ◌∙◌}
 use Rattle.std.proofs.lemmas.List.{append-nil}
 use Rattle.std.proofs.lemmas.Bool.{le-ltb, lt-ltb}
 use Rattle.base.specs.Sizes.{block_words, most_blocks}
 use Rattle.memory.specs.Slices.{block_at, whole_blocks}
 use Rattle.records.specs.declared.fault.FormatFault.TheVariants.{TooLong}
 use Rattle.records.specs.Bytes.{words_of}
-use Rattle.records.specs.Traces.{Trace, loose_after, stopped, trace_bytes, trace_from, trace_of}
+use Rattle.records.specs.Traces.{loose_after, stopped, trace_bytes, trace_from, trace_of}
 use Rattle.lines.specs.Lines.{line_bytes}
 use Rattle.rules.specs.Sizes.{most_processors}
 use Rattle.rules.specs.Basic.{pick}

@@ -4,11 +4,10 @@ use Rattle.memory.specs.declared.memory.Memory as memories
 use Rattle.paging.specs.declared.map.Map as maps
 use Rattle.replacement.specs.declared.rule.Rule as replacements
 use Rattle.records.specs.Traces.{Trace, trace_from, trace_of}
-use Rattle.lines.specs.declared.line.Line.{Line}
 use Rattle.rules.specs.Calls.{Board, Rules}
 use Rattle.rules.specs.History.{History, Setup, first_word}
 use Rattle.rules.specs.Exhibit.{fresh_setup}
-use Rattle.rules.specs.Listing.{last_line, lines_from, lines_of, listing, listing_bytes}
+use Rattle.rules.specs.Listing.{lines_from, lines_of, listing, listing_bytes}
 use Rattle.rules.specs.Printed.{PrintsLatest}
 use Rattle.machine.specs.State.{HasPast, board, rules_of}
 use Rattle.machine.specs.declared.machine.Machine.{Machine}

@@ -1,5 +1,5 @@
 -- One record played on a machine.
-use Rattle.std.specs.Prelude.{◌≡◌, ℕ, zero, suc, List, [], ◌∷◌, ◌++◌, length, Ok, Err, Result}
+use Rattle.std.specs.Prelude.{◌≡◌, ℕ, [], ◌∷◌, ◌++◌, Ok, Err, Result}
 use Rattle.base.specs.Sizes.{block_words}
 use Rattle.base.specs.Blocks.{block_of, page_of}
 use Rattle.memory.specs.declared.memory.Memory as memories
@@ -11,8 +11,7 @@ use Rattle.lines.specs.declared.line.Level.TheVariants.{NoReference}
 use Rattle.lines.specs.declared.line.Line.{Line}
 use Rattle.faults.specs.declared.machine_fault.MachineFault.{MachineFault}
 use Rattle.faults.specs.declared.trace_fault.TraceFault.{TraceFault}
-use Rattle.faults.specs.declared.trace_fault.TraceFault.TheVariants.{Machine, Format}
-use Rattle.faults.specs.MachineFaults.{fault_number}
+use Rattle.faults.specs.declared.trace_fault.TraceFault.TheVariants.{Machine}
 use Rattle.faults.specs.TraceFaults.{trace_number, trace_place}
 use Rattle.rules.specs.Calls.{Answer, Board, Rules, Step}
 use Rattle.rules.specs.Run.{device_reading, device_writing, entering, erasing, perform, reading, switching, writing}

@@ -1,9 +1,8 @@
 -- What the first checks give: a refusal, or that the rules' first numbers are 0.
-use Rattle.std.proofs.Common.{◌≡◌, ℕ, zero, suc, ◌+◌, ◌<◌, ◌≤◌, Bool, true, false, leb, Some, None, Ok, Err, Option, Result, sym, refl, ap, ◌∙◌, subst, arith, leb-false}
+use Rattle.std.proofs.Common.{◌≡◌, ℕ, ◌<◌, Bool, true, false, leb, Some, None, Err, Option, refl, ap, ◌∙◌, arith, leb-false}
 use Rattle.memory.specs.declared.memory.Memory as memories
 use Rattle.paging.specs.declared.map.Map as maps
 use Rattle.replacement.specs.declared.rule.Rule as replacements
-use Rattle.records.specs.declared.record.ProcessorNumber.{ProcessorNumber}
 use Rattle.faults.specs.declared.machine_fault.Caller.{Caller}
 use Rattle.faults.specs.declared.machine_fault.SetupFault.{SetupFault}
 use Rattle.faults.specs.declared.machine_fault.SetupFault.TheVariants.{Processors, MemorySize}
@@ -12,11 +11,11 @@ use Rattle.faults.specs.declared.machine_fault.MachineFault.TheVariants.{Setup, 
 use Rattle.faults.specs.MachineFaults.{fault_number}
 use Rattle.rules.specs.Sizes.{most_accepted}
 use Rattle.rules.specs.Basic.{pick}
-use Rattle.rules.specs.Calls.{Answer, Board, Step, full_number, or_next}
+use Rattle.rules.specs.Calls.{Answer, Step, full_number, or_next}
 use Rattle.machine.specs.Admits.{admitted, passed, set_up}
 use Rattle.machine.specs.References.{unless}
 use Rattle.machine.specs.Refusals.{Tells, counted_fault, first_fault}
-use Rattle.machine.specs.State.{Does, Sound, board, rules_of, setup_told}
+use Rattle.machine.specs.State.{Does, Sound, board, setup_told}
 use Rattle.machine.specs.declared.machine.Machine.{Machine}
 use Rattle.machine.proofs.Ends.{stops}
 

@@ -1,5 +1,5 @@
 -- A new machine: the number of its set-up, and its empty past.
-use Rattle.std.proofs.Common.{◌≡◌, ℕ, ◌%◌, ◌<◌, Bool, true, false, ◌||◌, eqb, ltb, leb, List, [], length, replicate, Some, None, Option, sym, refl, ap, ◌∙◌, subst, arith}
+use Rattle.std.proofs.Common.{◌≡◌, ℕ, ◌%◌, Bool, true, false, ◌||◌, eqb, ltb, leb, List, [], length, replicate, Some, None, Option, sym, refl, ap, ◌∙◌, subst}
 use Rattle.std.proofs.lemmas.Bool.{ltb-true}
 use Rattle.base.specs.Sizes.{block_words}
 use Rattle.memory.specs.declared.memory.Memory as memories
@@ -14,7 +14,7 @@ use Rattle.bus.specs.Passes.{blocks_of}
 use Rattle.rules.specs.Sizes.{most_processors, page_blocks}
 use Rattle.rules.specs.Basic.{pick}
 use Rattle.rules.specs.Cache.{new_processor, zeros}
-use Rattle.rules.specs.Calls.{Board, made, or_else, setup_number}
+use Rattle.rules.specs.Calls.{made, or_else, setup_number}
 use Rattle.rules.specs.Laws.{Past, begun}
 use Rattle.machine.specs.SetUp.{setup_fault, setup_of}
 use Rattle.machine.specs.State.{HasPast, board, rules_of, setup_told}

@@ -1,5 +1,5 @@
 -- The ends of a path: accepted, or refused with nothing changed.
-use Rattle.std.proofs.Common.{◌≡◌, ℕ, zero, suc, ◌+◌, ◌-◌, ◌^◌, ◌<◌, ◌≤◌, min, Bool, true, false, List, [], Some, None, Ok, Err, Option, sym, refl, ap, ◌∙◌, subst, arith}
+use Rattle.std.proofs.Common.{◌≡◌, ℕ, suc, ◌+◌, ◌-◌, ◌^◌, ◌<◌, min, Bool, true, false, List, [], Some, None, Ok, Err, Option, sym, refl, ap, ◌∙◌, subst, arith}
 use Rattle.memory.specs.declared.memory.Memory as memories
 use Rattle.paging.specs.declared.map.Map as maps
 use Rattle.replacement.specs.declared.rule.Rule as replacements
@@ -7,21 +7,19 @@ use Rattle.lines.specs.declared.line.Level.{Level}
 use Rattle.faults.specs.declared.machine_fault.MachineFault.{MachineFault}
 use Rattle.faults.specs.MachineFaults.{fault_number}
 use Rattle.tables.specs.declared.types.Processor.{Processor}
-use Rattle.bus.specs.Passes.{Snoopable, blocks_of}
+use Rattle.bus.specs.Passes.{Snoopable}
 use Rattle.processors.specs.Finish.{answered, finished}
 use Rattle.rules.specs.Sizes.{most_accepted}
 use Rattle.rules.specs.Bus.{Blocks, proc_at}
-use Rattle.rules.specs.Cache.{line_at}
-use Rattle.rules.specs.Calls.{Answer, Board, Reached, Ref, Step, completed, counted, cpu_at, nothing, upgrade_by, upgrade_sent, with_procs}
+use Rattle.rules.specs.Calls.{Answer, Board, Reached, Ref, Step, completed, counted, upgrade_by, upgrade_sent, with_procs}
 use Rattle.rules.specs.Ready.{Ready}
 use Rattle.caches.proofs.InRange.{ok_ranged}
 use Rattle.rules.specs.Sound.{translate}
 use Rattle.machine.specs.Answers.{access_answer, sent_list}
 use Rattle.machine.specs.References.{ref_of, unless, upgraded, upgrade_messages}
-use Rattle.machine.specs.Refusals.{Accepts, Refuses, Tells}
+use Rattle.machine.specs.Refusals.{Accepts, Tells}
 use Rattle.machine.specs.State.{Does, Sound, board, rules_of}
 use Rattle.machine.specs.declared.answer.Sent.{Sent}
-use Rattle.machine.specs.declared.answer.Access.{Access}
 use Rattle.machine.specs.declared.machine.Machine.{Machine}
 use Rattle.machine.specs.declared.reference.Reference.{Reference}
 

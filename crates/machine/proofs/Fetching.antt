@@ -1,8 +1,8 @@
 -- An R-miss.
-use Rattle.std.proofs.Common.{◌≡◌, ℕ, zero, suc, ◌+◌, ◌-◌, ◌/◌, ◌%◌, ◌^◌, ◌<◌, ◌≤◌, Bool, true, false, cond, List, [], ◌∷◌, ◌++◌, length, set, is_some, Some, None, Ok, Err, Option, Result, sym, refl, ap, ◌∙◌, subst, arith}
+use Rattle.std.proofs.Common.{◌≡◌, ℕ, ◌+◌, ◌-◌, ◌%◌, ◌^◌, ◌<◌, Bool, true, false, cond, List, [], ◌∷◌, ◌++◌, set, is_some, Some, None, Ok, Err, Option, Result, sym, refl, ap, ◌∙◌, subst, arith}
 use borrow.Author.Tests.{clash}
 use Rattle.std.proofs.lemmas.Bool.{lt-ltb}
-use Rattle.base.specs.Blocks.{block_of, word_of}
+use Rattle.base.specs.Blocks.{word_of}
 use Rattle.base.specs.declared.block.PhysicalBlock.{PhysicalBlock}
 use Rattle.memory.specs.declared.fault.MemoryFault.{MemoryFault}
 use Rattle.memory.specs.declared.fault.MemoryFault.TheVariants.{Outside}
@@ -13,8 +13,6 @@ use Rattle.replacement.specs.declared.rule.Rule as replacements
 use Rattle.lines.specs.declared.line.Level.TheVariants.{Miss}
 use Rattle.faults.specs.Beside.{besides}
 use Rattle.faults.specs.declared.machine_fault.Caller.{Caller}
-use Rattle.faults.specs.declared.machine_fault.MachineFault.{MachineFault}
-use Rattle.tables.specs.declared.message.Message.{Message}
 use Rattle.tables.specs.declared.types.Child.TheVariants.{NoChild}
 use Rattle.tables.specs.declared.types.Counts.{Counts}
 use Rattle.tables.specs.declared.types.EntryState.{EntryState}
@@ -23,20 +21,19 @@ use Rattle.tables.specs.declared.types.VLine.{VLine}
 use Rattle.tables.specs.declared.types.REntry.{REntry}
 use Rattle.tables.specs.declared.types.Processor.{Processor}
 use Rattle.bus.specs.declared.pass.Shared.{Shared as Seen}
-use Rattle.bus.specs.Passes.{Fetches, Snoopable, blocks_of, fetch_pass, passed_of, start_of}
+use Rattle.bus.specs.Passes.{Fetches, Snoopable, blocks_of, fetch_pass, passed_of}
 use Rattle.bus.proofs.Loops.{fetch_snooped}
 use Rattle.processors.specs.Finish.{answered, finished}
 use Rattle.steps.specs.declared.found.Room.{Room}
 use Rattle.steps.specs.Steps.{Rooms, child_freed, installed, line_freed, next_entry}
 use Rattle.steps.proofs.Rooming.{child_counts, free_counts}
-use Rattle.rules.specs.Sizes.{most_accepted, most_processors, page_blocks, r_sets, r_ways, v_sets, v_ways}
-use Rattle.rules.specs.Bus.{Blocks, Passed, memory, message, proc_at, put_block}
+use Rattle.rules.specs.Sizes.{most_processors, r_sets, v_sets}
+use Rattle.rules.specs.Bus.{Blocks, Passed, memory, message, proc_at}
 use Rattle.rules.specs.Cache.{entry_at, evict, evict_by, is_absent, line_at, r_find, v_way}
 use Rattle.rules.specs.Calls.{Board, Reached, cpu_at, fetch_kind, fetch_state, is_write, put_cpu, r_miss, snooped_by, with_mem, with_procs, write_back_by, write_back_sent}
-use Rattle.rules.specs.Invariant.{Filled, Present}
-use Rattle.rules.specs.Ready.{Ready}
+use Rattle.rules.specs.Invariant.{Filled}
 use Rattle.rules.specs.Rule.{Lawful}
-use Rattle.rules.specs.Sound.{InvOf, ProcOk, translate}
+use Rattle.rules.specs.Sound.{ProcOk, translate}
 use Rattle.rules.proofs.Sizes.{r_set_in, v_set_in}
 use Rattle.rules.proofs.Fetched.{set_keeps}
 use Rattle.rules.proofs.Hits.{ReachOk, valid_filled}
@@ -50,7 +47,7 @@ use Rattle.machine.specs.Answers.{access_answer, sent_list}
 use Rattle.machine.specs.References.{Backs, backed, ref_of}
 use Rattle.machine.specs.Refusals.{Tells, reference_fault}
 use Rattle.machine.specs.Paths.{Admitted, Found, page_at, r_miss_step}
-use Rattle.machine.specs.State.{Does, Sound, board, rules_of}
+use Rattle.machine.specs.State.{Does, board, rules_of}
 use Rattle.machine.specs.declared.answer.Sent.{Sent}
 use Rattle.machine.specs.declared.machine.Machine.{Machine}
 use Rattle.machine.specs.declared.reference.Reference.{Reference}

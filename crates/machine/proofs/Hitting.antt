@@ -1,35 +1,31 @@
 -- A V-hit.
-use Rattle.std.proofs.Common.{◌≡◌, ℕ, zero, suc, ◌+◌, ◌-◌, ◌/◌, ◌%◌, ◌^◌, ◌<◌, ◌≤◌, Bool, true, false, List, [], set, Some, None, Ok, Err, Option, Result, sym, refl, ap, ◌∙◌, subst, arith}
-use Rattle.base.specs.Sizes.{block_words}
+use Rattle.std.proofs.Common.{◌≡◌, ℕ, ◌+◌, ◌%◌, ◌<◌, List, set, Some, Ok, Err, Result, sym, refl, ap, ◌∙◌, subst, arith}
 use Rattle.base.specs.Blocks.{block_of, word_of}
 use Rattle.memory.specs.declared.memory.Memory as memories
 use Rattle.paging.specs.declared.map.Map as maps
 use Rattle.replacement.specs.declared.rule.Rule as replacements
 use Rattle.lines.specs.declared.line.Level.TheVariants.{VHit}
 use Rattle.faults.specs.declared.machine_fault.MachineFault.{MachineFault}
-use Rattle.tables.specs.declared.types.Place.{Place}
 use Rattle.tables.specs.declared.types.VLine.{VLine}
 use Rattle.tables.specs.declared.types.Processor.{Processor}
 use Rattle.bus.specs.Passes.{Snoopable}
 use Rattle.processors.specs.Finish.{answered, finished}
-use Rattle.rules.specs.Sizes.{most_accepted, most_processors, r_sets, r_ways, v_sets, v_ways}
-use Rattle.rules.specs.Basic.{first_below}
+use Rattle.rules.specs.Sizes.{most_processors, r_sets, r_ways, v_sets, v_ways}
 use Rattle.rules.specs.Bus.{Blocks, proc_at}
 use Rattle.rules.specs.Cache.{hits, line_at, v_find, v_used}
 use Rattle.rules.specs.Calls.{Board, Reached, cpu_at, put_cpu, v_hit, with_procs}
 use Rattle.rules.specs.Invariant.{Filled}
-use Rattle.rules.specs.Ready.{Ready}
 use Rattle.rules.specs.Sound.{translate}
 use Rattle.rules.proofs.Seek.{first_some, v_found}
 use Rattle.rules.proofs.Sizes.{v_set_in}
 use Rattle.rules.proofs.Hits.{ReachOk, v_hit_ok, valid_filled}
 use Rattle.caches.specs.Ranged.{Ranged}
 use Rattle.caches.proofs.InRange.{ok_ranged}
-use Rattle.machine.specs.Answers.{access_answer, sent_list}
-use Rattle.machine.specs.References.{Claimed, Claims, Kept, must_upgrade, ref_of, upgraded, upgrade_messages}
+use Rattle.machine.specs.Answers.{access_answer}
+use Rattle.machine.specs.References.{Claimed, Claims, Kept, must_upgrade, ref_of, upgraded}
 use Rattle.machine.specs.Refusals.{Tells, reference_fault}
 use Rattle.machine.specs.Paths.{Admitted, hit_step, page_at}
-use Rattle.machine.specs.State.{Does, Sound, board, rules_of}
+use Rattle.machine.specs.State.{Does, board, rules_of}
 use Rattle.machine.specs.declared.answer.Sent.{Sent}
 use Rattle.machine.specs.declared.machine.Machine.{Machine}
 use Rattle.machine.specs.declared.reference.Reference.{Reference}

@@ -1,6 +1,6 @@
 -- An R-hit.
-use Rattle.std.proofs.Common.{◌≡◌, ℕ, zero, suc, ◌+◌, ◌-◌, ◌/◌, ◌%◌, ◌^◌, ◌<◌, ◌≤◌, Bool, true, false, List, [], set, Some, None, Ok, Err, Option, Result, sym, refl, ap, ◌∙◌, subst, arith}
-use Rattle.base.specs.Blocks.{block_of, word_of}
+use Rattle.std.proofs.Common.{◌≡◌, ℕ, ◌+◌, ◌%◌, ◌<◌, List, set, Some, Ok, Err, Option, Result, sym, refl, ap, ◌∙◌, subst, arith}
+use Rattle.base.specs.Blocks.{word_of}
 use Rattle.memory.specs.declared.memory.Memory as memories
 use Rattle.paging.specs.declared.map.Map as maps
 use Rattle.replacement.specs.declared.rule.Rule as replacements
@@ -15,18 +15,18 @@ use Rattle.steps.specs.Steps.{Attaches}
 use Rattle.rules.specs.Sizes.{most_processors, page_blocks, r_sets, r_ways, v_sets, v_ways}
 use Rattle.rules.specs.Bus.{Blocks, proc_at}
 use Rattle.rules.specs.Cache.{entry_at, holds, line_at, r_find}
-use Rattle.rules.specs.Calls.{Attached, Board, Reached, attach, cpu_at, needs_upgrade, physical, put_cpu, r_hit, upgrade_by, with_procs}
+use Rattle.rules.specs.Calls.{Attached, Board, Reached, attach, cpu_at, needs_upgrade, put_cpu, r_hit, upgrade_by, with_procs}
 use Rattle.rules.specs.Invariant.{Filled}
 use Rattle.rules.specs.Rule.{Lawful}
 use Rattle.rules.specs.Sound.{physical_by, translate}
 use Rattle.rules.proofs.Seek.{first_some, r_found}
-use Rattle.rules.proofs.Sizes.{page_fits, r_set_in, v_set_in}
+use Rattle.rules.proofs.Sizes.{page_fits, r_set_in}
 use Rattle.rules.proofs.Upgrade.{UpgradeOk, upgrade_ok}
 use Rattle.rules.proofs.Hits.{ReachOk, r_hit_ok, valid_filled}
 use Rattle.caches.specs.Ranged.{ChildIn, Ranged}
 use Rattle.caches.proofs.InRange.{ok_ranged}
 use Rattle.caches.proofs.Snoops.{child_in}
-use Rattle.machine.specs.Answers.{access_answer, sent_list}
+use Rattle.machine.specs.Answers.{access_answer}
 use Rattle.machine.specs.References.{Claimed, Claims, Kept, must_upgrade, ref_of, upgraded}
 use Rattle.machine.specs.Refusals.{Tells, reference_fault}
 use Rattle.machine.specs.Paths.{Admitted, Found, page_at, r_hit_step}

@@ -1,15 +1,15 @@
 -- A call that does the rules' step carries every past on, and the laws with it.
-use Rattle.std.proofs.Common.{◌≡◌, ◌∷◌, sym, subst}
+use Rattle.std.proofs.Common.{◌∷◌, sym, subst}
 use Rattle.memory.specs.declared.memory.Memory as memories
 use Rattle.paging.specs.declared.map.Map as maps
 use Rattle.replacement.specs.declared.rule.Rule as replacements
 use Rattle.rules.specs.Rule.{Lawful}
-use Rattle.rules.specs.Calls.{Board, Rules, Step}
+use Rattle.rules.specs.Calls.{Rules, Step}
 use Rattle.rules.specs.Run.{Call, perform}
 use Rattle.rules.specs.History.{History, Setup, event}
-use Rattle.rules.specs.Laws.{Laws, Past, called}
+use Rattle.rules.specs.Laws.{Past, called}
 use Rattle.rules.proofs.Runs.{laws_of_runs}
-use Rattle.machine.specs.State.{Does, HasPast, Performed, Performs, Sound, board, rules_of}
+use Rattle.machine.specs.State.{Does, HasPast, Performs, board, rules_of}
 use Rattle.machine.specs.declared.machine.Machine.{Machine}
 
 module _ {M S V R : Type 0} (m : maps.Ghosts M) (s : memories.Ghosts S) (v : replacements.Ghosts V) (r : replacements.Ghosts R) where

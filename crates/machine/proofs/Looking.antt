@@ -1,5 +1,5 @@
 -- A V-miss: what the map gives, and which path goes on.
-use Rattle.std.proofs.Common.{◌≡◌, ℕ, zero, suc, ◌+◌, ◌*◌, ◌/◌, ◌%◌, ◌<◌, ◌≤◌, Bool, true, false, cond, ◌&&◌, ltb, leb, List, Some, None, Ok, Err, Option, Result, sym, refl, ap, ◌∙◌, subst, arith}
+use Rattle.std.proofs.Common.{◌≡◌, ℕ, ◌/◌, ◌<◌, ◌≤◌, true, false, cond, ◌&&◌, leb, List, Some, None, Ok, Err, Option, Result, sym, refl, ap, ◌∙◌, subst, arith}
 use Rattle.std.proofs.lemmas.Bool.{le-leb, lt-leb, lt-ltb}
 use Rattle.base.specs.Sizes.{addresses, pages, processes}
 use Rattle.base.specs.Blocks.{block_of, page_of}
@@ -22,7 +22,7 @@ use Rattle.tables.specs.declared.types.Processor.{Processor as Records}
 use Rattle.rules.specs.Sizes.{most_processors, page_blocks}
 use Rattle.rules.specs.Bus.{Blocks, proc_at}
 use Rattle.rules.specs.Cache.{r_find}
-use Rattle.rules.specs.Calls.{Board, Rules, Step, block_of as block_by, completed, cpu_at, frame_number, frame_of, miss_by, or_else, physical, r_number, v_miss}
+use Rattle.rules.specs.Calls.{Board, Rules, Step, block_of as block_by, completed, cpu_at, frame_number, frame_of, miss_by, or_else, physical, r_number}
 use Rattle.rules.specs.Ready.{Ready}
 use Rattle.machine.specs.Answers.{access_answer}
 use Rattle.machine.specs.References.{ref_of, unless}

@@ -1,31 +1,26 @@
 -- A whole reference: the first checks, then a hit or a miss.
-use Rattle.std.proofs.Common.{◌≡◌, ℕ, zero, suc, ◌<◌, ◌≤◌, Bool, true, false, cond, ltb, leb, List, Some, None, Ok, Err, Option, Result, sym, refl, ap, ◌∙◌, subst, arith}
+use Rattle.std.proofs.Common.{◌≡◌, ℕ, zero, suc, ◌<◌, ◌≤◌, Bool, true, false, cond, ltb, leb, List, Some, None, Err, Option, Result, sym, refl, ap, ◌∙◌, subst, arith}
 use Rattle.std.proofs.lemmas.Bool.{le-leb, lt-leb, ltb-false, ltb-true}
 use Rattle.base.specs.Sizes.{addresses}
 use Rattle.base.specs.Blocks.{address_of, block_of, page_of}
 use Rattle.base.specs.declared.block.Address.{Address}
-use Rattle.base.specs.declared.block.Page.{Page}
 use Rattle.memory.specs.declared.memory.Memory as memories
 use Rattle.paging.specs.declared.map.Map as maps
 use Rattle.replacement.specs.declared.rule.Rule as replacements
 use Rattle.records.specs.declared.record.ProcessorNumber.{ProcessorNumber}
-use Rattle.faults.specs.declared.machine_fault.Caller.TheVariants.{Processor}
 use Rattle.faults.specs.declared.machine_fault.MachineFault.{MachineFault}
-use Rattle.faults.specs.declared.machine_fault.MachineFault.TheVariants.{NoAddress, NoProcessor}
+use Rattle.faults.specs.declared.machine_fault.MachineFault.TheVariants.{NoAddress}
 use Rattle.tables.specs.declared.types.Processor.{Processor as Records}
-use Rattle.rules.specs.Bus.{Blocks, proc_at}
+use Rattle.rules.specs.Bus.{Blocks}
 use Rattle.rules.specs.Cache.{v_find}
 use Rattle.rules.specs.Calls.{Board, Ref, Rules, Step, completed, cpu_at, full_number, make_ref, or_else, or_next, reach, reach_by, ref_number, refer, reference, v_number}
-use Rattle.rules.specs.History.{History, Setup}
 use Rattle.rules.specs.Ready.{Ready}
-use Rattle.rules.specs.Rule.{Lawful}
-use Rattle.rules.proofs.Bounds.{past_ready}
 use Rattle.machine.specs.Admits.{Missing}
 use Rattle.machine.specs.Answers.{access_answer}
 use Rattle.machine.specs.References.{ref_of, unless}
 use Rattle.machine.specs.Refusals.{Tells, reference_fault}
 use Rattle.machine.specs.Paths.{Admitted, page_at}
-use Rattle.machine.specs.State.{Does, HasPast, Sound, board, rules_of}
+use Rattle.machine.specs.State.{Does, Sound, board, rules_of}
 use Rattle.machine.specs.declared.answer.Access.{Access}
 use Rattle.machine.specs.declared.machine.Machine.{Machine}
 use Rattle.machine.specs.declared.reference.Reference.{Reference}

@@ -1,5 +1,5 @@
 -- The paths of a reference on a board, and what the code of a path promises.
-use Rattle.std.specs.Prelude.{◌≡◌, ℕ, ◌/◌, ◌<◌, Some, None, Option, Result}
+use Rattle.std.specs.Prelude.{◌≡◌, ℕ, ◌<◌, Some, None, Option, Result}
 use Rattle.base.specs.Blocks.{block_of, page_of}
 use Rattle.base.specs.declared.block.Page.{Page}
 use Rattle.memory.specs.declared.memory.Memory as memories
@@ -8,10 +8,8 @@ use Rattle.replacement.specs.declared.rule.Rule as replacements
 use Rattle.faults.specs.declared.machine_fault.MachineFault.{MachineFault}
 use Rattle.rules.specs.Sizes.{most_accepted}
 use Rattle.rules.specs.Bus.{Blocks}
-use Rattle.rules.specs.Calls.{Board, Ref, Rules, Step, completed, cpu_at, frame_number, frame_of, physical, r_hit, r_miss, r_number, reference, v_hit, v_miss, v_number}
-use Rattle.rules.specs.Rule.{Lawful}
+use Rattle.rules.specs.Calls.{Board, Rules, Step, completed, frame_number, frame_of, physical, r_hit, r_miss, r_number, reference, v_hit, v_miss, v_number}
 use Rattle.rules.specs.Ready.{Ready}
-use Rattle.rules.specs.Sound.{translate}
 use Rattle.machine.specs.Answers.{access_answer}
 use Rattle.machine.specs.References.{ref_of, unless}
 use Rattle.machine.specs.Refusals.{Tells, reference_fault}

@@ -1,5 +1,5 @@
 -- The parts of a reference over the processors' records and the memory, as the code has them.
-use Rattle.std.specs.Prelude.{◌≡◌, ℕ, zero, suc, Bool, true, false, List, [], ◌∷◌, ◌++◌, Ok, Err, Option, Result, slice_set}
+use Rattle.std.specs.Prelude.{◌≡◌, ℕ, zero, suc, Bool, true, false, List, [], ◌∷◌, Ok, Err, Option, Result, slice_set}
 use Rattle.memory.specs.declared.memory.Memory as memories
 use Rattle.records.specs.declared.record.ProcessorNumber.{ProcessorNumber}
 use Rattle.tables.specs.declared.message.Message.{Message}

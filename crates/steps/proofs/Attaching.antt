@@ -8,7 +8,7 @@ use Rattle.tables.specs.declared.types.Processor.{Processor}
 use Rattle.rules.specs.Sizes.{v_sets, v_ways, r_sets, r_ways}
 use Rattle.rules.specs.Rule.{Rule}
 use Rattle.rules.specs.Cache.{filled, free_line, line_at, moved, put_line, r_used, retagged, v_loaded, v_used, v_way}
-use Rattle.rules.specs.Calls.{Attached, attach, attach_same}
+use Rattle.rules.specs.Calls.{attach, attach_same}
 use Rattle.rules.proofs.Sizes.{r_set_in, v_set_in}
 use Rattle.caches.specs.Ranged.{ChildIn, Ranged}
 use Rattle.steps.specs.declared.found.Found.{Found}

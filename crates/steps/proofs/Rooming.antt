@@ -1,5 +1,5 @@
 -- Room made step by step is the room of the rules. s and h are the sets as the code has them.
-use Rattle.std.proofs.Common.{◌≡◌, ℕ, ◌+◌, ◌-◌, ◌%◌, ◌^◌, ◌<◌, Option, sym, refl, ap, ◌∙◌, subst, mod-eq_of_lt}
+use Rattle.std.proofs.Common.{◌≡◌, ℕ, ◌-◌, ◌%◌, ◌^◌, ◌<◌, Option, sym, refl, ap, ◌∙◌, subst, mod-eq_of_lt}
 use Rattle.tables.specs.declared.types.LineState.{LineState}
 use Rattle.tables.specs.declared.types.LineState.TheVariants.{Empty, Valid, Swapped}
 use Rattle.tables.specs.declared.types.Child.{Child}
@@ -17,7 +17,6 @@ use Rattle.rules.proofs.Sizes.{r_set_in, v_set_in}
 use Rattle.caches.specs.Ranged.{ChildIn, Ranged}
 use Rattle.caches.proofs.InRange.{ok_ranged}
 use Rattle.caches.proofs.Snoops.{child_in}
-use Rattle.steps.specs.declared.found.Room.{Room}
 use Rattle.steps.specs.Steps.{Rooms, installed, child_freed, line_freed, next_entry}
 
 -- freeing counts nothing

@@ -1,5 +1,5 @@
 -- What the steps of a reference do to the processor that makes it.
-use Rattle.std.specs.Prelude.{◌≡◌, ℕ, ◌%◌, ◌<◌}
+use Rattle.std.specs.Prelude.{◌≡◌, ℕ, ◌<◌}
 use Rattle.steps.specs.declared.found.Found.{Found}
 use Rattle.steps.specs.declared.found.Room.{Room}
 use Rattle.tables.specs.declared.types.REntry.{REntry}
@@ -7,7 +7,7 @@ use Rattle.tables.specs.declared.types.Processor.{Processor}
 use Rattle.rules.specs.Rule.{Rule}
 use Rattle.rules.specs.Cache.{entry_at, evict, filled, free_child, free_line, put_entry, r_way, v_way, with_counts, count_fetched, r_loaded, v_loaded}
 use Rattle.rules.specs.Calls.{Attached}
-use Rattle.rules.specs.Sizes.{v_ways, r_ways}
+use Rattle.rules.specs.Sizes.{v_ways}
 
 -- a processor q and an answer are those of the rules
 pub record Attaches (q : Processor) (r : Found) (a : Attached) : Type 0 where

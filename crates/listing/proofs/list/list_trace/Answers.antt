@@ -1,8 +1,7 @@
-use Rattle.std.proofs.Common.{◌≡◌, ℕ, ◌<◌, ◌≤◌, List, ◌++◌, length, vec_items, vec_len, refl, ap, ◌∙◌, arith}
+use Rattle.std.proofs.Common.{ℕ, List, ◌++◌, length, vec_items, refl, ap, ◌∙◌, arith}
 use Rattle.lines.specs.Lines.{line_bytes}
 use Rattle.paging.specs.Frames.{flat}
 use Rattle.paging.specs.declared.table.FlatTable.{FlatTable}
-use Rattle.records.specs.Bytes.{words_of}
 use Rattle.records.proofs.Whole.{words_length}
 use Rattle.listing.proofs.Whole.{fresh_board, too_long, words_listed, zero_count, zero_memory}
 use Rattle.listing.proofs.list.list_trace.Goals as goal

@@ -1,4 +1,4 @@
-use Rattle.std.proofs.Common.{◌≡◌, ℕ, ◌<◌, length, vec_items, arith}
+use Rattle.std.proofs.Common.{◌≡◌, ◌<◌, length, vec_items, arith}
 use Rattle.records.proofs.Steps.{decoded_shorter}
 use Rattle.listing.proofs.Running.{ends_loose, goes_on, stops_at}
 use Rattle.listing.proofs.list.list_words.Goals as goal

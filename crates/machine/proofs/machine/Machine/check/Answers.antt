@@ -1,4 +1,4 @@
-use Rattle.std.proofs.Common.{◌≡◌, Some, None, refl, ap, ◌∙◌}
+use Rattle.std.proofs.Common.{Some, None, refl, ap, ◌∙◌}
 use Rattle.machine.specs.SetUp.{setup_of}
 use Rattle.machine.proofs.Beginning.{setup_none, setup_some}
 use Rattle.machine.proofs.machine.Machine.check.Goals as goal

@@ -1,4 +1,4 @@
-use Rattle.std.proofs.Common.{◌≡◌, ℕ, ◌%◌, ◌<◌, false, List, sym, refl, ap, ◌∙◌, subst}
+use Rattle.std.proofs.Common.{◌%◌, false, sym, ap, ◌∙◌}
 use Rattle.bus.proofs.Blocks.{block_held, same_blocks}
 use Rattle.faults.specs.declared.machine_fault.Caller.TheVariants.{Processor}
 use Rattle.rules.specs.Calls.{fetch_state}

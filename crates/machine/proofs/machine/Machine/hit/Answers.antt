@@ -1,10 +1,9 @@
-use Rattle.std.proofs.Common.{ℕ, ◌<◌, Ok, Err, sym, ◌∙◌, subst}
+use Rattle.std.proofs.Common.{ℕ, ◌<◌, Ok, Err, sym, subst}
 use lib.Seq.{set-get_or}
 use Rattle.rules.specs.Bus.{no_processor}
 use Rattle.std.proofs.lemmas.Result.{err_from_is_err_and}
 use Rattle.rules.specs.Sizes.{v_sets}
 use Rattle.rules.proofs.Sizes.{v_set_in}
-use Rattle.machine.specs.Answers.{access_answer}
 use Rattle.machine.specs.References.{ref_of}
 use Rattle.machine.proofs.Ends.{one_more}
 use Rattle.machine.proofs.Hitting.{few, hit_claim, hit_ends, hit_line, hit_stops, way}

@@ -1,10 +1,9 @@
-use Rattle.std.proofs.Common.{◌≡◌, ℕ, ◌<◌, Some, None, Option, sym, refl, ap, ◌∙◌, subst, arith}
+use Rattle.std.proofs.Common.{◌<◌, Some, None, refl, ◌∙◌, arith}
 use Rattle.std.proofs.lemmas.Result.{err_from_is_err_and}
 use Rattle.base.specs.Sizes.{processes}
 use Rattle.base.specs.declared.block.Process.{Process}
 use Rattle.faults.specs.declared.machine_fault.Caller.TheVariants.{Processor}
 use Rattle.rules.specs.Bus.{proc_at}
-use Rattle.rules.specs.Cache.{r_find}
 use Rattle.machine.proofs.Looking.{beyond_stops, look_admitted, look_few, look_found, look_frame, look_goes, look_none, look_search, look_some, look_stops}
 use Rattle.machine.proofs.machine.Machine.miss.Goals as goal
 
