@@ -1,5 +1,5 @@
 -- A list of words as the blocks of a memory.
-use Rattle.std.specs.Prelude.{ℕ, ◌+◌, ◌*◌, ◌/◌, ◌≤◌, min, cond, List, [], ◌∷◌, length, set, nat_lt, slice_index, slice_set}
+use Rattle.std.specs.Prelude.{ℕ, ◌+◌, ◌*◌, ◌/◌, ◌≤◌, min, cond, List, [], ◌∷◌, length, nat_lt, slice_index, slice_set}
 use Rattle.std.proofs.Math.Nat.{min-le_right}
 use Rattle.base.specs.Sizes.{block_words, most_blocks}
 use Rattle.base.specs.declared.block.PhysicalBlock.{PhysicalBlock}
@@ -20,7 +20,7 @@ block_at ws b =
 -- the four words from place p on replaced, and no other
 abbrev pub four_at : List ℕ → ℕ → List ℕ → List ℕ
 four_at ws p vs =
-    set
+    slice_set
     (slice_set (slice_set (slice_set ws p (slice_index vs 0)) (p + 1) (slice_index vs 1)) (p + 2) (slice_index vs 2))
     (p + 3)
     (slice_index vs 3)

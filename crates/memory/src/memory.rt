@@ -18,8 +18,9 @@ pub trait Memory {
     // is promised of every memory.
     ghost sound: { Self → Type 0 };
 
-    // Two laws of a sound memory. They are members and not laws of the trait, since Rattle proves
-    // no impl with a lifetime where a trait has a law.
+    // Two laws of a sound memory. They stand above the methods, as members, and not below them, as
+    // laws: the Rattle that they were written for proved no impl with a lifetime where a trait has
+    // a law.
     ghost few: { (s : Self) → sound s → count s ≤ most_blocks };
 
     ghost four: { (s : Self) (b : ℕ) → sound s → b < count s → length (holds s b) ≡ block_words };

@@ -142,7 +142,7 @@ impl<M: ChangeableMap> ChangeableMap for TranslationBuffer<M> {
 
 // Asks that a map be sound.
 fn asks_sound<M: Map>(map: &M)
-    requires { M.sound map.now }
+    requires { M.Map.sound map.now }
 {}
 
 // Each map as it is made is sound, and so is a buffer over it.

@@ -31,25 +31,33 @@ fn check_words(rt: &impl Abort, words: &[u32], written: Option<u32>) {
             Some(from) if from <= place && place - from < 4 => place - from + 1,
             _ => place.wrapping_add(OLD),
         };
-        assert_eq!(rt; *word, expected, "{}", place);
+        assert_eq!(rt; *word, expected, "word {place}");
         place = place.wrapping_add(1);
     }
 }
 
 fn check_read<M: Memory>(rt: &impl Abort, memory: &mut M, number: u16, words: Words) {
-    assert_eq!(rt; memory.read(PhysicalBlock::new(number)), Ok(words));
+    assert_eq!(rt;
+        memory.read(PhysicalBlock::new(number)),
+        Ok(words),
+        "block {number}"
+    );
 }
 
 fn check_write<M: Memory>(rt: &impl Abort, memory: &mut M, number: u16, words: Words) {
-    assert_eq!(rt; memory.write(PhysicalBlock::new(number), words), Ok(()));
+    assert_eq!(rt;
+        memory.write(PhysicalBlock::new(number), words),
+        Ok(()),
+        "block {number}"
+    );
 }
 
 // Read and write refuse a block as outside.
 fn check_refused<M: Memory>(rt: &impl Abort, memory: &mut M, number: u16) -> Result<(), Fail> {
     let block = PhysicalBlock::new(number);
     let outside = MemoryFault::Outside { block };
-    assert_eq!(rt; memory.read(block), Err(outside));
-    assert_eq!(rt; memory.write(block, NEW), Err(outside));
+    assert_eq!(rt; memory.read(block), Err(outside), "block {number}");
+    assert_eq!(rt; memory.write(block, NEW), Err(outside), "block {number}");
     assert_eq!(rt; outside.number(), 12);
     assert_eq!(rt; outside.layer(), Layer::Memory);
     assert_eq!(rt; outside.place(), u32::from(number));

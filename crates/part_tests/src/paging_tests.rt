@@ -21,7 +21,7 @@ fn check_fault<T: Drop>(
     match answer {
         Ok(_) => Err(Fail::new("not refused")),
         Err(fault) => {
-            assert_eq!(rt; fault.number(), number);
+            assert_eq!(rt; fault.number(), number, "page {page}");
             assert_eq!(rt; fault.layer(), Layer::Map);
             assert_eq!(rt; fault.place(), u32::from(page));
             Ok(())
@@ -40,7 +40,11 @@ fn check_frame<M: Map>(
     let answer = map.frame_of(Process(process), Page(page));
     match frame {
         Some(frame) => {
-            assert_eq!(rt; answer, Ok(Frame(frame)));
+            assert_eq!(rt;
+                answer,
+                Ok(Frame(frame)),
+                "page {page} of process {process}"
+            );
             Ok(())
         },
         None => check_fault(rt, answer, NO_FRAME, page),

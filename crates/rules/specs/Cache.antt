@@ -1,5 +1,5 @@
 -- One processor: its lines, entries and what the rules do to them.
-use Rattle.std.specs.Prelude.{ℕ, ◌+◌, ◌%◌, Bool, true, false, not, ◌||◌, ltb, List, [], ◌∷◌, map, replicate, Some, None, Option, ◌==◌, nat_lt, slice_index, slice_index_or, slice_set}
+use Rattle.std.specs.Prelude.{ℕ, ◌+◌, ◌%◌, Bool, true, false, not, ◌||◌, List, [], ◌∷◌, map, replicate, Some, None, Option, ◌==◌, nat_lt, slice_index, slice_index_or, slice_set}
 use Rattle.replacement.specs.Sizes.{ways}
 use Rattle.rules.specs.Sizes.{v_sets, v_ways, r_sets, r_ways}
 use Rattle.tables.specs.declared.types.LineState.{LineState}
@@ -121,13 +121,13 @@ free_line p s w = free_line_by (line_at p s w).state p s w (line_at p s w)
 
 -- the V-way to free: the lowest empty one, else the rule's choice of all
 abbrev pub v_way : Rule → Processor → ℕ → ℕ
-v_way ru p s = with_default (first_below v_ways (λ w. is_empty (line_at p s w).state)) (ru.choice (slice_index p.vrule s) (flags ways (λ w. ltb w v_ways)))
+v_way ru p s = with_default (first_below v_ways (λ w. is_empty (line_at p s w).state)) (ru.choice (slice_index p.vrule s) (flags ways (λ w. nat_lt w v_ways)))
 
 abbrev pub childless : REntry → Bool
 childless e = is_nil e.child
 
 abbrev pub r_choice : Rule → ℕ → List Bool → Option ℕ → ℕ
-r_choice ru word free None = ru.choice word (flags ways (λ w. ltb w r_ways))
+r_choice ru word free None = ru.choice word (flags ways (λ w. nat_lt w r_ways))
 r_choice ru word free (Some k) = ru.choice word free
 
 -- the R-way to free: the lowest absent one, else the rule's choice among the entries without child, else among all

@@ -28,6 +28,6 @@ pub fn reads(rt: &impl Abort, heap: Global, bytes: &[u8], wanted: (u8, usize)) -
         Ok(records) => (0, records.len()),
         Err(error) => told(rt, error)?,
     };
-    assert_eq!(rt; found, wanted);
+    assert_eq!(rt; found, wanted, "a trace of {} bytes", bytes.len());
     Ok(())
 }
