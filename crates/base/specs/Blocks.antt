@@ -1,11 +1,12 @@
 -- How addresses, virtual blocks and pages hang together.
-use Rattle.std.specs.Prelude.{ℕ, ◌+◌, ◌*◌, ◌/◌, ◌%◌, cond, Some, None, Option, nat_lt}
+use Rattle.std.specs.Prelude.{ℕ, ◌+◌, ◌*◌, ◌/◌, ◌%◌, Ok, Err, Result, nat_lt, if◌then◌else◌}
 use Rattle.base.specs.Sizes.{addresses, block_words, page_blocks}
 use Rattle.base.specs.declared.block.Address.{Address}
+use Rattle.base.specs.declared.block.NoAddress.{NoAddress}
 
 -- an address is the number of a word below the number of addresses
-abbrev pub address_of : ℕ → Option Address
-address_of n = cond (nat_lt n addresses) (Some (record { 0 = n })) None
+abbrev pub addressed : ℕ → Result Address NoAddress
+addressed n = if nat_lt n addresses then Ok (record { 0 = n }) else Err (record { 0 = n })
 
 -- the virtual block of an address, and the word in it
 abbrev pub block_of : ℕ → ℕ

@@ -1,5 +1,5 @@
 ghost use Rattle.std.specs.Prelude.{◌≡◌, ℕ, ◌+◌, ◌*◌, ◌<◌};
-ghost use Rattle.base.specs.Blocks.{address_of, block_of, composed, in_page, page_of, word_of};
+ghost use Rattle.base.specs.Blocks.{addressed, block_of, composed, in_page, page_of, word_of};
 
 use crate::size::{ADDRESSES, BLOCK_WORDS, PAGE_BLOCKS};
 
@@ -31,25 +31,34 @@ pub struct VirtualBlock(u16);
 #[derive(Clone, Copy, Debug, PartialEq, Eq)]
 pub struct PhysicalBlock(u16);
 
-impl Address {
-    // The address of a word, where there is one.
-    pub fn new(word: u16) -> Option<Address>
-        ensures { result ≡ address_of word }
-    {
+// The number of a word that has no address.
+#[derive(Clone, Copy, Debug, PartialEq, Eq)]
+pub struct NoAddress(pub u16);
+
+// The address of a word, where there is one.
+impl TryFrom<u16> for Address {
+    type Error = NoAddress;
+
+    ghost try_from_gives = { λ word r. r ≡ addressed word };
+
+    fn try_from(word: u16) -> Result<Address, NoAddress> {
         if word < ADDRESSES {
-            Some(Address(word))
+            Ok(Address(word))
         } else {
-            None
+            Err(NoAddress(word))
         }
     }
+}
 
-    pub fn number(self) -> u16
-        ensures { result ≡ self.0 }
-    {
-        let Address(word) = self;
-        word
+impl From<Address> for u16 {
+    ghost from_gives = { λ address r. r ≡ address.0 };
+
+    fn from(address: Address) -> u16 {
+        address.0
     }
+}
 
+impl Address {
     pub fn block(self) -> VirtualBlock
         ensures { result.0 ≡ block_of self.0 }
     {
@@ -65,20 +74,31 @@ impl Address {
     }
 }
 
-impl VirtualBlock {
-    pub fn new(number: u16) -> VirtualBlock
-        ensures { result.0 ≡ number }
-    {
+impl From<u16> for VirtualBlock {
+    ghost from_gives = { λ number r. r.0 ≡ number };
+
+    fn from(number: u16) -> VirtualBlock {
         VirtualBlock(number)
     }
+}
 
-    pub fn number(self) -> u16
-        ensures { result ≡ self.0 }
-    {
-        let VirtualBlock(block) = self;
-        block
+impl From<VirtualBlock> for u16 {
+    ghost from_gives = { λ block r. r ≡ block.0 };
+
+    fn from(block: VirtualBlock) -> u16 {
+        block.0
     }
+}
 
+impl From<VirtualBlock> for usize {
+    ghost from_gives = { λ block r. r ≡ block.0 };
+
+    fn from(block: VirtualBlock) -> usize {
+        usize::from(block.0)
+    }
+}
+
+impl VirtualBlock {
     pub fn page(self) -> Page
         ensures { result.0 ≡ page_of self.0 }
     {
@@ -93,17 +113,26 @@ impl VirtualBlock {
     }
 }
 
-impl PhysicalBlock {
-    pub fn new(number: u16) -> PhysicalBlock
-        ensures { result.0 ≡ number }
-    {
+impl From<u16> for PhysicalBlock {
+    ghost from_gives = { λ number r. r.0 ≡ number };
+
+    fn from(number: u16) -> PhysicalBlock {
         PhysicalBlock(number)
     }
+}
 
-    pub fn number(self) -> u16
-        ensures { result ≡ self.0 }
-    {
-        let PhysicalBlock(block) = self;
-        block
+impl From<PhysicalBlock> for u16 {
+    ghost from_gives = { λ block r. r ≡ block.0 };
+
+    fn from(block: PhysicalBlock) -> u16 {
+        block.0
+    }
+}
+
+impl From<PhysicalBlock> for usize {
+    ghost from_gives = { λ block r. r ≡ block.0 };
+
+    fn from(block: PhysicalBlock) -> usize {
+        usize::from(block.0)
     }
 }
