@@ -12,7 +12,7 @@ pub fn no_line() -> VLine
 {
     VLine {
         state: LineState::Empty,
-        tag: VirtualBlock::new(0),
+        tag: VirtualBlock::from(0),
         words: [0; BLOCK_WORDS],
         dirty: false,
         rplace: Place { set: 0, way: 0 },
@@ -25,7 +25,7 @@ pub fn no_entry() -> REntry
 {
     REntry {
         state: EntryState::Absent,
-        block: PhysicalBlock::new(0),
+        block: PhysicalBlock::from(0),
         words: [0; BLOCK_WORDS],
         rdirty: false,
         child: Child::NoChild,

@@ -14,7 +14,7 @@ pub fn is_hit(line: &VLine, tag: VirtualBlock) -> bool
     ensures { result ≡ hits tag.0 line.now }
 {
     match line.state {
-        LineState::Valid => line.tag.number() == tag.number(),
+        LineState::Valid => line.tag == tag,
         LineState::Empty | LineState::Swapped => false,
     }
 }
@@ -24,7 +24,7 @@ pub fn find_line(p: &Processor, block: VirtualBlock) -> Option<usize>
     ensures way { result ≡ v_find p.now block.0 }
     ensures within { FoundBelow v_ways result }
 {
-    let set = block.number() as usize % V_SETS;
+    let set = usize::from(block) % V_SETS;
     for way in 0..V_WAYS {
         if is_hit(&p.v[set][way], block) {
             return Some(way);
@@ -39,7 +39,7 @@ pub fn is_holder(entry: &REntry, block: PhysicalBlock) -> bool
 {
     match entry.state {
         EntryState::Absent => false,
-        EntryState::Private | EntryState::Shared => entry.block.number() == block.number(),
+        EntryState::Private | EntryState::Shared => entry.block == block,
     }
 }
 
@@ -48,7 +48,7 @@ pub fn find_entry(p: &Processor, block: PhysicalBlock) -> Option<usize>
     ensures way { result ≡ r_find p.now block.0 }
     ensures within { FoundBelow r_ways result }
 {
-    let set = block.number() as usize % R_SETS;
+    let set = usize::from(block) % R_SETS;
     for way in 0..R_WAYS {
         if is_holder(&p.r[set][way], block) {
             return Some(way);

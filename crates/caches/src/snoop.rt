@@ -34,7 +34,7 @@ pub fn snoop_take(p: &mut Processor, block: PhysicalBlock)
     let Some(way) = find_entry(p, block) else {
         return;
     };
-    let set = block.number() as usize % R_SETS;
+    let set = usize::from(block) % R_SETS;
     let child = p.r[set][way].child;
     empty_child(p, child);
     p.r[set][way] = no_entry();
@@ -107,7 +107,7 @@ pub fn snoop_read(p: &mut Processor, block: PhysicalBlock) -> Snoop
     let Some(way) = find_entry(p, block) else {
         return Snoop::NotHeld;
     };
-    let set = block.number() as usize % R_SETS;
+    let set = usize::from(block) % R_SETS;
     let entry = p.r[set][way];
     if is_modified(&entry) {
         let words = current_words(p, &entry);

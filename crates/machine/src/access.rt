@@ -64,7 +64,7 @@ impl<M: Map, S: Memory, V: Rule, R: Rule> Machine<M, S, V, R> {
     {
         let cpu = r.cpu();
         let home = Place {
-            set: block.number() as usize % R_SETS,
+            set: usize::from(block) % R_SETS,
             way,
         };
         let child = entry_at(&self.processors[cpu], home).child;
@@ -132,7 +132,7 @@ impl<M: Map, S: Memory, V: Rule, R: Rule> Machine<M, S, V, R> {
             way: room.line_way,
         };
         let home = Place {
-            set: block.number() as usize % R_SETS,
+            set: usize::from(block) % R_SETS,
             way: room.entry_way,
         };
         install(
@@ -169,7 +169,7 @@ impl<M: Map, S: Memory, V: Rule, R: Rule> Machine<M, S, V, R> {
             self.map.look_up(process, r.block()),
             Caller::Processor(r.processor),
         )?;
-        if block.number() >= self.memory.count_blocks() {
+        if u16::from(block) >= self.memory.count_blocks() {
             return Err(MachineFault::BeyondMemory(r.processor));
         }
         match find_entry(&self.processors[cpu], block) {

@@ -30,7 +30,7 @@ impl<M: Map, S: Memory, V: Rule, R: Rule> Machine<M, S, V, R> {
     {
         self.admit(Caller::Processor(processor))?;
         self.locate(processor)?;
-        let Some(address) = Address::new(address) else {
+        let Ok(address) = Address::try_from(address) else {
             return Err(MachineFault::NoAddress(processor));
         };
         let r = Reference {

@@ -35,7 +35,7 @@ impl Reference {
     pub(crate) fn set(self) -> usize
         ensures { result ≡ block_of self.address.0 % v_sets }
     {
-        self.address.block().number() as usize % V_SETS
+        usize::from(self.address.block()) % V_SETS
     }
 
     // Which word of the block it is.

@@ -35,7 +35,7 @@ impl MemoryFault {
         ensures { result ≡ fault_place self }
     {
         match self {
-            MemoryFault::Outside { block } => block.number() as u32,
+            MemoryFault::Outside { block } => u32::from(u16::from(block)),
         }
     }
 }

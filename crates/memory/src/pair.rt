@@ -50,11 +50,11 @@ impl<A: Memory, B: Memory> Memory for Pair<A, B> {
     }
 
     fn read(&mut self, block: PhysicalBlock) -> Result<Words, MemoryFault> {
-        let number = block.number();
+        let number = u16::from(block);
         if number >= self.count_blocks() {
             return Err(MemoryFault::Outside { block });
         }
-        let half = PhysicalBlock::new(number / 2);
+        let half = PhysicalBlock::from(number / 2);
         let answer = if number % 2 == 0 {
             self.even.read(half)
         } else {
@@ -67,11 +67,11 @@ impl<A: Memory, B: Memory> Memory for Pair<A, B> {
     }
 
     fn write(&mut self, block: PhysicalBlock, words: Words) -> Result<(), MemoryFault> {
-        let number = block.number();
+        let number = u16::from(block);
         if number >= self.count_blocks() {
             return Err(MemoryFault::Outside { block });
         }
-        let half = PhysicalBlock::new(number / 2);
+        let half = PhysicalBlock::from(number / 2);
         let answer = if number % 2 == 0 {
             self.even.write(half, words)
         } else {

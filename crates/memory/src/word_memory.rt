@@ -89,7 +89,7 @@ impl<'a> Memory for WordMemory<'a> {
         ensures list { self.new.words.now ≡ self.old.words.now }
         ensures named { self.new.words.ghost_name ≡ self.old.words.ghost_name }
     {
-        let number = block.number();
+        let number = u16::from(block);
         if number >= self.count_blocks() {
             return Err(MemoryFault::Outside { block });
         }
@@ -112,7 +112,7 @@ impl<'a> Memory for WordMemory<'a> {
         ensures list { self.new.words.now ≡ stored self.old.words.now block words }
         ensures named { self.new.words.ghost_name ≡ self.old.words.ghost_name }
     {
-        let number = block.number();
+        let number = u16::from(block);
         if number >= self.count_blocks() {
             return Err(MemoryFault::Outside { block });
         }

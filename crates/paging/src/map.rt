@@ -36,7 +36,7 @@ pub trait Map {
 pub(crate) fn block_in(frame: Frame, block: VirtualBlock) -> PhysicalBlock
     ensures { result ≡ block_in frame.0 block.0 }
 {
-    PhysicalBlock::new(u16::from(frame.0) * PAGE_BLOCKS + block.in_page())
+    PhysicalBlock::from(u16::from(frame.0) * PAGE_BLOCKS + block.in_page())
 }
 
 // A map whose entries can be changed.

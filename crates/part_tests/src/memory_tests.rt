@@ -38,7 +38,7 @@ fn check_words(rt: &impl Abort, words: &[u32], written: Option<u32>) {
 
 fn check_read<M: Memory>(rt: &impl Abort, memory: &mut M, number: u16, words: Words) {
     assert_eq!(rt;
-        memory.read(PhysicalBlock::new(number)),
+        memory.read(PhysicalBlock::from(number)),
         Ok(words),
         "block {number}"
     );
@@ -46,7 +46,7 @@ fn check_read<M: Memory>(rt: &impl Abort, memory: &mut M, number: u16, words: Wo
 
 fn check_write<M: Memory>(rt: &impl Abort, memory: &mut M, number: u16, words: Words) {
     assert_eq!(rt;
-        memory.write(PhysicalBlock::new(number), words),
+        memory.write(PhysicalBlock::from(number), words),
         Ok(()),
         "block {number}"
     );
@@ -54,7 +54,7 @@ fn check_write<M: Memory>(rt: &impl Abort, memory: &mut M, number: u16, words: W
 
 // Read and write refuse a block as outside.
 fn check_refused<M: Memory>(rt: &impl Abort, memory: &mut M, number: u16) -> Result<(), Fail> {
-    let block = PhysicalBlock::new(number);
+    let block = PhysicalBlock::from(number);
     let outside = MemoryFault::Outside { block };
     assert_eq!(rt; memory.read(block), Err(outside), "block {number}");
     assert_eq!(rt; memory.write(block, NEW), Err(outside), "block {number}");

@@ -52,8 +52,8 @@ fn check_frame<M: Map>(
 }
 
 fn check_look_up<M: Map>(rt: &impl Abort, map: &mut M, process: u8, block: u16, physical: u16) {
-    let answer = map.look_up(Process(process), VirtualBlock::new(block));
-    assert_eq!(rt; answer, Ok(PhysicalBlock::new(physical)));
+    let answer = map.look_up(Process(process), VirtualBlock::from(block));
+    assert_eq!(rt; answer, Ok(PhysicalBlock::from(physical)));
 }
 
 fn check_change<M: ChangeableMap>(
@@ -162,7 +162,7 @@ fn straight_map(rt: HostRuntime) -> Result<(), Fail> {
     check_look_up(&rt, &mut map, 1, 9, 73);
     check_fault(
         &rt,
-        map.look_up(Process(0), VirtualBlock::new(512)),
+        map.look_up(Process(0), VirtualBlock::from(512)),
         OUT_OF_RANGE,
         64,
     )

@@ -76,7 +76,7 @@ fn page(first: u32) -> Page
 fn block(first: u32) -> PhysicalBlock
     ensures { result ≡ device_block first }
 {
-    PhysicalBlock::new(field(first, 15, 0) as u16)
+    PhysicalBlock::from(field(first, 15, 0) as u16)
 }
 
 // The kind of the record that begins with `first`, where it names every bit that is set.

@@ -21,7 +21,7 @@ fn home(block: PhysicalBlock, way: usize) -> Place
     ensures way { result.way ≡ way }
 {
     Place {
-        set: block.number() as usize % R_SETS,
+        set: usize::from(block) % R_SETS,
         way,
     }
 }
@@ -61,7 +61,7 @@ fn attach_moved<V: Rule, R: Rule>(
     ensures { Ranged p.old → from.set < v_sets → from.way < v_ways → way < r_ways → Attaches p.new result (attach_same false (rule_of V.Rule v_rule.now) (rule_of R.Rule r_rule.now) p.old tag.0 from.set from.way block.0 way) }
 {
     let home = home(block, way);
-    let set = tag.number() as usize % V_SETS;
+    let set = usize::from(tag) % V_SETS;
     let to = Place {
         set,
         way: line_way(p, v_rule, set),
@@ -88,7 +88,7 @@ fn attach_filled<V: Rule, R: Rule>(
     ensures { Ranged p.old → way < r_ways → Attaches p.new result (attached NoChild (rule_of V.Rule v_rule.now) (rule_of R.Rule r_rule.now) p.old tag.0 block.0 way) }
 {
     let home = home(block, way);
-    let set = tag.number() as usize % V_SETS;
+    let set = usize::from(tag) % V_SETS;
     let to = Place {
         set,
         way: line_way(p, v_rule, set),
@@ -118,7 +118,7 @@ pub fn attach<V: Rule, R: Rule>(
     match child {
         Child::NoChild => attach_filled(p, v_rule, r_rule, tag, block, way),
         Child::At { place, .. } => {
-            if place.set == tag.number() as usize % V_SETS {
+            if place.set == usize::from(tag) % V_SETS {
                 attach_there(p, v_rule, r_rule, place, tag, block, way)
             } else {
                 attach_moved(p, v_rule, r_rule, place, tag, block, way)

@@ -27,8 +27,8 @@ pub fn make_room<V: Rule, R: Rule>(
     ensures lines { result.line_way < v_ways }
     ensures entries { result.entry_way < r_ways }
 {
-    let v_set = tag.number() as usize % V_SETS;
-    let r_set = block.number() as usize % R_SETS;
+    let v_set = usize::from(tag) % V_SETS;
+    let r_set = usize::from(block) % R_SETS;
     let line_way = line_way(p, v_rule, v_set);
     free_line(p, v_set, line_way);
     let entry_way = entry_way(p, r_rule, r_set);

@@ -53,7 +53,7 @@ impl Message {
     {
         let sender = u32::from(self.sender % 16);
         let supplier = u32::from(self.supplier % 16);
-        let block = u32::from(self.block.number());
+        let block = u32::from(u16::from(self.block));
         self.kind.number() * 0x1000_0000 + sender * 0x100_0000 + supplier * 0x10_0000 + block
     }
 }

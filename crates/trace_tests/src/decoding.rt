@@ -75,13 +75,13 @@ fn expected() -> [Record; RECORDS] {
             page: Page(42),
         },
         Record::DeviceRead {
-            block: PhysicalBlock::new(32769),
+            block: PhysicalBlock::from(32769),
         },
         Record::DeviceRead {
-            block: PhysicalBlock::new(65535),
+            block: PhysicalBlock::from(65535),
         },
         Record::DeviceWrite {
-            block: PhysicalBlock::new(65535),
+            block: PhysicalBlock::from(65535),
             words: [0x0102_0304, 0x8000_0000, 0, 0xFFFF_FFFF],
         },
         Record::Enter {
