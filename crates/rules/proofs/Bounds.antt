@@ -13,11 +13,12 @@ use Rattle.tables.specs.declared.types.Processor.{Processor}
 use Rattle.tables.specs.declared.types.Snoop.{Snoop}
 use Rattle.tables.specs.declared.types.Snoop.TheVariants.{NotHeld, Held as HeldClean, Supplied}
 use Rattle.tables.specs.declared.message.Message.{Message}
+use Rattle.tables.specs.Messages.{sender_number}
 use Rattle.rules.specs.Sizes.{v_sets, r_sets, most_accepted}
 use Rattle.rules.specs.Basic.{pick, both}
 use Rattle.rules.specs.Rule.{Rule, Lawful}
 use Rattle.rules.specs.Cache.{entry_at, line_at, put_entry, past_entry, no_entry, is_absent, is_shared, free_line, free_line_by, free_child, evict, evict_by, filled, moved, stored, swap_all, v_find, r_find, v_way, r_way, r_loaded, v_loaded, with_v, with_counts, count_fetched}
-use Rattle.rules.specs.Bus.{Passed, clean_at, device, empty_at, message, modified, no_processor, noted_by, proc_at, read_pass, read_skip, seen_by, shared_by, shared_held, take_by, take_pass, take_skip}
+use Rattle.rules.specs.Bus.{Passed, clean_at, device, empty_at, from_cpu, message, modified, no_processor, noted_by, proc_at, read_pass, read_skip, seen_by, shared_by, shared_held, take_by, take_pass, take_skip}
 use Rattle.rules.specs.Calls.{Answer, Board, Rules, Ref, Reached, attach, attach_same, block_of, completed, cpu_at, device_number, device_read_by, device_write_by, fetch_kind, fetch_state, frame_number, frame_of, full_number, is_write, make_ref, miss_by, needs_upgrade, nothing, or_else, or_next, physical, put_cpu, r_hit, r_miss, r_number, reach, reach_by, ref_number, refer, release_bus, release_number, remap_by, remap_number, snooped_by, swap_page, swap_pages, switch_by, switch_number, take_bus, take_number, tenured, told, counts_number, entry_number, line_number, made, upgrade_by, upgrade_sent, v_hit, v_number, write_back_by, write_back_sent}
 use Rattle.rules.specs.Run.{Call, reading, writing, switching, entering, erasing, taking, releasing, device_reading, device_writing, line_reading, entry_reading, counts_reading, perform}
 use Rattle.rules.specs.Invariant.{Present}
@@ -190,7 +191,7 @@ pick_few true = omega arith
 pick_few false = omega arith
 
 one_few : (j : ℕ) (m : Message) → fetches_in j (m ∷ []) ≤ 1
-one_few j m = let z = pick_few (both (is_fetch m.kind) (eqb m.sender j)) in omega arith
+one_few j m = let z = pick_few (both (is_fetch m.kind) (eqb (sender_number m.sender) j)) in omega arith
 
 upgrade_few : (t : Bool) (st : Board) (i rs rw j : ℕ) → fetches_in j (upgrade_sent t st i rs rw) ≤ 1
 upgrade_few false st i rs rw j = omega arith
@@ -283,7 +284,7 @@ miss_reaches rs st r b lt A =
         count = K₁.count;
         accepted = K₁.accepted;
       };
-      few = λ j. miss_few e.rdirty i j e (message (fetch_kind x) i q.supplier b);
+      few = λ j. miss_few e.rdirty i j e (message (fetch_kind x) (from_cpu i) q.supplier b);
     }
 
 -- what a number of 0 says

@@ -11,13 +11,14 @@ use Rattle.tables.specs.declared.types.Child.TheVariants.{NoChild, At}
 use Rattle.tables.specs.declared.types.REntry.{REntry}
 use Rattle.tables.specs.declared.types.Processor.{Processor}
 use Rattle.tables.specs.declared.types.Counts.{Counts}
+use Rattle.tables.specs.declared.message.Supplier.{Supplier}
 use Rattle.tables.specs.declared.types.Snoop.{Snoop}
 use Rattle.tables.specs.declared.types.Snoop.TheVariants.{NotHeld, Held, Supplied}
 use Rattle.rules.specs.Sizes.{v_sets, r_sets, most_processors}
 use Rattle.rules.specs.Basic.{pick}
 use Rattle.rules.specs.Rule.{Rule}
 use Rattle.rules.specs.Cache.{entry_at, line_at, new_processor, with_v, r_find, v_find, free_line, free_line_by, free_child, evict, evict_by, v_way, r_way}
-use Rattle.rules.specs.Bus.{Passed, proc_at, no_processor, modified, clean_at, take_by, take_skip, take_pass, seen_by, shared_by, shared_held, noted_by, read_skip, read_pass, message}
+use Rattle.rules.specs.Bus.{Passed, proc_at, no_processor, modified, clean_at, take_by, take_skip, take_pass, seen_by, shared_by, shared_held, noted_by, read_skip, read_pass, message, from_cpu}
 use Rattle.rules.specs.Calls.{Board, Rules, Ref, Reached, cpu_at, upgrade_by, upgrade_sent, needs_upgrade, v_hit, r_hit, r_miss, miss_by, reach, reach_by, attach, attach_same, block_of, frame_of, write_back_by, write_back_sent, snooped_by, fetch_kind, is_write, put_cpu, swap_page, swap_pages}
 use Rattle.rules.specs.History.{fetches_in}
 use Rattle.rules.proofs.Whole.{put_same, put_other}
@@ -186,7 +187,7 @@ snoop_length false i b st = read_length st.cpus i b _
 snoop_length true i b st = take_length st.cpus i b _ ∙ read_length st.cpus i b _
 
 -- the messages of a miss: a write-back is no fetch
-miss_sent : (t x : Bool) (i j : ℕ) (e : REntry) (f b : ℕ) → fetches_in j (write_back_sent t i e ++ (message (fetch_kind x) i f b ∷ [])) ≡ pick (eqb i j) 1 0
+miss_sent : (t x : Bool) (i j : ℕ) (e : REntry) (f : Supplier) (b : ℕ) → fetches_in j (write_back_sent t i e ++ (message (fetch_kind x) (from_cpu i) f b ∷ [])) ≡ pick (eqb i j) 1 0
 miss_sent false false i j e f b = omega arith
 miss_sent false true i j e f b = omega arith
 miss_sent true false i j e f b = omega arith

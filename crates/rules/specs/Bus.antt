@@ -11,22 +11,37 @@ use Rattle.tables.specs.declared.types.REntry.{REntry}
 use Rattle.tables.specs.declared.types.Processor.{Processor}
 use Rattle.tables.specs.declared.message.Message.{Message}
 use Rattle.tables.specs.declared.message.MessageKind.{MessageKind}
+use Rattle.tables.specs.declared.message.Sender.{Sender}
+use Rattle.tables.specs.declared.message.Sender.TheVariants.{Cpu, Device}
+use Rattle.tables.specs.declared.message.Supplier.{Supplier}
+use Rattle.tables.specs.declared.message.Supplier.TheVariants.{Holder, Memory, NoData}
+use Rattle.tables.specs.Messages.{sender_number}
 use Rattle.rules.specs.Basic.{pick}
 use Rattle.rules.specs.Cache.{line_at, entry_at, put_line, put_entry, no_line, no_entry, vdirty_of, r_find, with_state, with_counts, count_invalidated}
 
 -- kind, sender, supplier, block
-abbrev pub message : MessageKind → ℕ → ℕ → ℕ → Message
+abbrev pub message : MessageKind → Sender → Supplier → ℕ → Message
 message k s f b = record { kind = k; sender = s; supplier = f; block = record { 0 = b } }
 
--- the device as sender, the memory as supplier, and no supplier
+-- the device as sender; a processor as sender, and as supplier
+abbrev pub from_device : Sender
+from_device = Device
+
+abbrev pub from_cpu : ℕ → Sender
+from_cpu i = Cpu (record { 0 = i })
+
+abbrev pub by_cpu : ℕ → Supplier
+by_cpu i = Holder (record { 0 = i })
+
+-- the device as sender, by its number among the processors; the memory as supplier, and no supplier
 abbrev pub device : ℕ
-device = 8
+device = sender_number Device
 
-abbrev pub memory : ℕ
-memory = 8
+abbrev pub memory : Supplier
+memory = Memory
 
-abbrev pub no_data : ℕ
-no_data = 15
+abbrev pub no_data : Supplier
+no_data = NoData
 
 -- a memory's meaning, and the writing of one block
 abbrev pub Blocks : Type 0
@@ -91,13 +106,13 @@ shared_by (Some w) b p = shared_held (modified (entry_at p (b % r_sets) w)) (b %
 pub record Passed : Type 0 where
   pub procs : List Processor
   pub mem : Blocks
-  pub supplier : ℕ
+  pub supplier : Supplier
   pub acked : Bool
 
 abbrev pub noted_by : Snoop → ℕ → ℕ → List Processor → Passed → Passed
 noted_by NotHeld b i ps q = record { procs = ps; mem = q.mem; supplier = q.supplier; acked = q.acked }
 noted_by Held b i ps q = record { procs = ps; mem = q.mem; supplier = q.supplier; acked = true }
-noted_by (Supplied ws) b i ps q = record { procs = ps; mem = put_block q.mem b ws; supplier = i; acked = true }
+noted_by (Supplied ws) b i ps q = record { procs = ps; mem = put_block q.mem b ws; supplier = by_cpu i; acked = true }
 
 abbrev pub read_skip : Bool → ℕ → ℕ → Passed → Passed
 read_skip true b i q = q

@@ -18,7 +18,7 @@ use Rattle.rules.specs.Basic.{pick, both}
 use Rattle.rules.specs.Invariant.{resident}
 use Rattle.rules.specs.Rule.{Rule}
 use Rattle.rules.specs.Cache.{line_at, entry_at, put_entry, v_find, r_find, v_way, r_way, free_line, free_child, evict, moved, filled, stored, retagged, put_line, with_state, is_shared, v_used, v_loaded, r_used, r_loaded, with_counts, count_fetched, swap_all, swap_line, with_v, new_processor}
-use Rattle.rules.specs.Bus.{device, memory, no_data, message, Blocks, put_block, proc_at, Passed, read_pass, take_pass}
+use Rattle.rules.specs.Bus.{device, memory, no_data, message, from_cpu, by_cpu, from_device, Blocks, put_block, proc_at, Passed, read_pass, take_pass}
 
 -- The whole board: the processors' records, of which the first cpus count; the memory's and the map's meaning; whether
 -- the bus is held by the device; how many calls were accepted; the number that set-up told (0 for none); and the
@@ -92,7 +92,7 @@ upgrade_by true st i rs rw =
 
 abbrev pub upgrade_sent : Bool → Board → ℕ → ℕ → ℕ → List Message
 upgrade_sent false st i rs rw = []
-upgrade_sent true st i rs rw = message Invalidation i no_data (entry_at (cpu_at st i) rs rw).block.0 ∷ []
+upgrade_sent true st i rs rw = message Invalidation (from_cpu i) no_data (entry_at (cpu_at st i) rs rw).block.0 ∷ []
 
 abbrev pub needs_upgrade : Option ℕ → REntry → Bool
 needs_upgrade v e = both (is_write v) (is_shared e.state)
@@ -142,7 +142,7 @@ write_back_by true st e = with_mem st (put_block st.mem e.block.0 e.words)
 
 abbrev pub write_back_sent : Bool → ℕ → REntry → List Message
 write_back_sent false i e = []
-write_back_sent true i e = message WriteBack i i e.block.0 ∷ []
+write_back_sent true i e = message WriteBack (from_cpu i) (by_cpu i) e.block.0 ∷ []
 
 abbrev pub snooped_by : Bool → ℕ → ℕ → Board → Passed
 snooped_by false i b st = read_pass (st.cpus) i b (record { procs = st.procs; mem = st.mem; supplier = memory; acked = false })
@@ -176,7 +176,7 @@ r_miss rs st r b =
     let n : REntry = record { state = fetch_state x q.acked; block = record { 0 = b }; words = q.mem b; rdirty = false; child = NoChild } in
     let p₄ = filled (with_counts (put_entry p₃ (b % r_sets) k n) (count_fetched p₃.counts)) s u (b % r_sets) k r.vb in
     let p₅ = r_loaded rs.for_r (v_loaded rs.for_v p₄ s u) (b % r_sets) k in
-    record { at = with_mem (with_procs st₁ (slice_set q.procs i p₅)) q.mem; set = s; way = u; level = Miss; sent = write_back_sent e.rdirty i e ++ (message (fetch_kind x) i q.supplier b ∷ []) }
+    record { at = with_mem (with_procs st₁ (slice_set q.procs i p₅)) q.mem; set = s; way = u; level = Miss; sent = write_back_sent e.rdirty i e ++ (message (fetch_kind x) (from_cpu i) q.supplier b ∷ []) }
 
 abbrev pub miss_by : Option ℕ → Rules → Board → Ref → ℕ → Reached
 miss_by (Some k) rs st r b = r_hit rs st r b k
@@ -323,7 +323,7 @@ device_number st t b k = or_next (full_number st) (or_next (pick (tenured st t) 
 abbrev pub device_read_by : ℕ → Board → ℕ → Step
 device_read_by zero st b =
     let q = read_pass (st.cpus) device b (record { procs = st.procs; mem = st.mem; supplier = memory; acked = false }) in
-    record { number = 0; answer = record { level = NoReference; word = slice_index (q.mem b) 0; block = q.mem b; sent = message DeviceRead device q.supplier b ∷ [] }; after = counted (with_mem (with_procs st q.procs) q.mem) }
+    record { number = 0; answer = record { level = NoReference; word = slice_index (q.mem b) 0; block = q.mem b; sent = message DeviceRead from_device q.supplier b ∷ [] }; after = counted (with_mem (with_procs st q.procs) q.mem) }
 device_read_by (suc n) st b = record { number = suc n; answer = nothing; after = st }
 
 abbrev pub device_read : Board → ℕ → ℕ → ℕ → Step
@@ -331,7 +331,7 @@ device_read st t b k = device_read_by (device_number st t b k) st b
 
 abbrev pub device_write_by : ℕ → Board → ℕ → List ℕ → Step
 device_write_by zero st b ws =
-    record { number = 0; answer = record { level = NoReference; word = 0; block = []; sent = message DeviceWrite device no_data b ∷ [] }; after = counted (with_mem (with_procs st (take_pass st.cpus device b st.procs)) (put_block st.mem b ws)) }
+    record { number = 0; answer = record { level = NoReference; word = 0; block = []; sent = message DeviceWrite from_device no_data b ∷ [] }; after = counted (with_mem (with_procs st (take_pass st.cpus device b st.procs)) (put_block st.mem b ws)) }
 device_write_by (suc n) st b ws = record { number = suc n; answer = nothing; after = st }
 
 abbrev pub device_write : Board → ℕ → ℕ → List ℕ → Step

@@ -5,6 +5,7 @@ use Rattle.tables.specs.declared.message.Message.{Message}
 use Rattle.tables.specs.declared.message.MessageKind.{MessageKind}
 use Rattle.tables.specs.declared.message.MessageKind.TheVariants.{ReadMiss, Invalidation, ReadModifyWrite, WriteBack, DeviceRead, DeviceWrite}
 use Rattle.rules.specs.Basic.{pick, both}
+use Rattle.tables.specs.Messages.{sender_number}
 use Rattle.rules.specs.Bus.{Blocks}
 use Rattle.rules.specs.Calls.{Answer, Step, put_frame}
 use Rattle.rules.specs.Run.{Call, reading, writing, switching, entering, erasing, taking, releasing, device_reading, device_writing, line_reading, entry_reading, counts_reading}
@@ -119,7 +120,7 @@ is_fetch DeviceWrite = false
 
 abbrev pub fetches_in : ℕ → List Message → ℕ
 fetches_in i [] = 0
-fetches_in i (m ∷ ms) = pick (both (is_fetch m.kind) (m.sender == i)) 1 0 + fetches_in i ms
+fetches_in i (m ∷ ms) = pick (both (is_fetch m.kind) (sender_number m.sender == i)) 1 0 + fetches_in i ms
 
 abbrev pub fetches_of : ℕ → Event → ℕ
 fetches_of i (Read j a r) = fetches_in i r.sent

@@ -28,6 +28,7 @@ pub enum LineState {
 }
 
 // A line of the V-cache. The tag is its virtual block, the R-place that of its entry in the R-cache.
+// An empty line is no None: a rule of the project tells the other fields of one, each as 0 or false.
 #[derive(Clone, Copy, Debug, PartialEq, Eq)]
 pub struct VLine {
     pub state: LineState,
@@ -47,13 +48,14 @@ pub enum EntryState {
 }
 
 // The copy of an entry's block in the V-cache, and whether it is newer than the entry's words.
+// Shaped as an Option, and an enum of its own all the same: a rule of the project has a child enum in each entry.
 #[derive(Clone, Copy, Debug, PartialEq, Eq)]
 pub enum Child {
     NoChild,
     At { place: Place, vdirty: bool },
 }
 
-// An entry of the R-cache.
+// An entry of the R-cache. An absent one is no None: a rule of the project has a state enum in each entry.
 #[derive(Clone, Copy, Debug, PartialEq, Eq)]
 pub struct REntry {
     pub state: EntryState,
@@ -71,7 +73,8 @@ pub struct Counts {
     pub invalidated: u32,
 }
 
-// One processor. `vrule` and `rrule` are the words of the replacement rules, one for each set.
+// One processor. `vrule` and `rrule` are the words of the replacement rules, one for each set. They stand beside the
+// tables: in a struct for each set, `p.v[set][way]` would be no plainer as `p.v[set].lines[way]`.
 #[derive(Clone, Copy)]
 pub struct Processor {
     pub v: [[VLine; V_WAYS]; V_SETS],
@@ -85,7 +88,7 @@ pub struct Processor {
 // the most processors of a board
 pub const PROCESSORS: usize = 4;
 
-// The records of a board's processors.
+// The records of a board's processors. An array with a count beside it, and no Vec: making a machine cannot fail.
 pub type Processors = [Processor; PROCESSORS];
 
 // What a processor answers where it sees a read on the bus.
