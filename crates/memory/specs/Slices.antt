@@ -1,5 +1,5 @@
 -- A list of words as the blocks of a memory.
-use Rattle.std.specs.Prelude.{ℕ, ◌+◌, ◌*◌, ◌/◌, ◌≤◌, min, cond, List, [], ◌∷◌, length, nat_lt, slice_index, slice_set}
+use Rattle.std.specs.Prelude.{ℕ, ◌+◌, ◌*◌, ◌/◌, ◌≤◌, min, List, [], ◌∷◌, ◌++◌, length, if◌then◌else◌, nat_lt, slice_index, take, drop}
 use Rattle.std.proofs.Math.Nat.{min-le_right}
 use Rattle.base.specs.Sizes.{block_words, most_blocks}
 use Rattle.base.specs.declared.block.PhysicalBlock.{PhysicalBlock}
@@ -19,15 +19,11 @@ block_at ws b =
 
 -- the four words from place p on replaced, and no other
 abbrev pub four_at : List ℕ → ℕ → List ℕ → List ℕ
-four_at ws p vs =
-    slice_set
-    (slice_set (slice_set (slice_set ws p (slice_index vs 0)) (p + 1) (slice_index vs 1)) (p + 2) (slice_index vs 2))
-    (p + 3)
-    (slice_index vs 3)
+four_at ws p vs = take p ws ++ (vs ++ drop (p + block_words) ws)
 
 -- the words after a write of block b: its four words replaced, and none where it is refused
 abbrev pub stored : List ℕ → PhysicalBlock → List ℕ → List ℕ
-stored ws b vs = cond (nat_lt b.0 (whole_blocks ws)) (four_at ws (block_words * b.0) vs) ws
+stored ws b vs = if nat_lt b.0 (whole_blocks ws) then four_at ws (block_words * b.0) vs else ws
 
 -- they are no more than a memory has
 pub few_blocks : (ws : List ℕ) → whole_blocks ws ≤ most_blocks

@@ -1,8 +1,9 @@
-ghost use Rattle.std.specs.Prelude.{◌≡◌, Some};
-ghost use Rattle.memory.specs.Fault.{fault_layer, fault_number, fault_place, fault_text, text_at};
-ghost use Rattle.std.specs.Fmt.{WritesOnOk};
+ghost use Rattle.std.specs.Prelude.{Some};
+ghost use Rattle.std.proofs.Common.{rules};
+ghost use Rattle.memory.specs.Fault.{fault_layer, fault_number, fault_place, fault_text};
 
 use base::block::PhysicalBlock;
+use base::fault::Fault;
 use base::layer::Layer;
 use std::fmt;
 
@@ -13,27 +14,27 @@ pub enum MemoryFault {
     Outside { block: PhysicalBlock },
 }
 
-impl MemoryFault {
-    pub fn number(self) -> u8
-        ensures { result ≡ fault_number self }
-    {
+impl Fault for MemoryFault {
+    ghost number_of = { fault_number };
+
+    ghost layer_of = { fault_layer };
+
+    ghost place_of = { fault_place };
+
+    ghost numbered = { Prim.search rules };
+
+    fn number(self) -> u8 {
         match self {
             MemoryFault::Outside { block: _ } => 12,
         }
     }
 
-    pub fn layer(self) -> Layer
-        ensures { result ≡ fault_layer self }
-    {
-        match self {
-            MemoryFault::Outside { block: _ } => Layer::Memory,
-        }
+    fn layer(self) -> Layer {
+        Layer::Memory
     }
 
     // Where it came about: the block.
-    pub fn place(self) -> u32
-        ensures { result ≡ fault_place self }
-    {
+    fn place(self) -> u32 {
         match self {
             MemoryFault::Outside { block } => u32::from(u16::from(block)),
         }
@@ -44,12 +45,6 @@ impl fmt::Display for MemoryFault {
     ghost output = { λ x. Some (fault_text x) };
 
     fn fmt<W: fmt::Write>(&self, f: &mut fmt::Formatter<W>) -> fmt::Result {
-        show(self.place(), f)
+        write!(f, "block {} is outside the memory", self.place())
     }
-}
-
-fn show<W: fmt::Write>(place: u32, f: &mut fmt::Formatter<W>) -> fmt::Result
-    ensures { WritesOnOk W.Write.write_str_gives f.old result (text_at place) f.new }
-{
-    write!(f, "block {place} is outside the memory")
 }

@@ -1,6 +1,6 @@
 ghost use Rattle.std.specs.Prelude.{◌≡◌, ℕ, ◌<◌, ◌≤◌, List, length};
 ghost use Rattle.base.specs.Sizes.{block_words, most_blocks};
-ghost use Rattle.memory.specs.Words.{Own, reading, writing, written};
+ghost use Rattle.memory.specs.Words.{Own, below, reading, writing, written};
 
 use crate::fault::MemoryFault;
 use base::block::{PhysicalBlock, Words};
@@ -19,8 +19,7 @@ pub trait Memory {
     ghost sound: { Self → Type 0 };
 
     // Two laws of a sound memory. They stand above the methods, as members, and not below them, as
-    // laws: the Rattle that they were written for proved no impl with a lifetime where a trait has
-    // a law.
+    // laws: the machine's proofs take them with the other members of its memory.
     ghost few: { (s : Self) → sound s → count s ≤ most_blocks };
 
     ghost four: { (s : Self) (b : ℕ) → sound s → b < count s → length (holds s b) ≡ block_words };
@@ -41,4 +40,16 @@ pub trait Memory {
         ensures own { Own block result }
         ensures same { sound self.old → count self.new ≡ count self.old }
         ensures blocks { sound self.old → holds self.new ≡ written (count self.old) (holds self.old) block words };
+}
+
+// The number of a block, which must be below a count of blocks.
+pub(crate) fn number_below(count: u16, block: PhysicalBlock) -> Result<u16, MemoryFault>
+    ensures { result ≡ below count block }
+{
+    let number = u16::from(block);
+    if number < count {
+        Ok(number)
+    } else {
+        Err(MemoryFault::Outside { block })
+    }
 }

@@ -1,8 +1,9 @@
 ghost use Rattle.std.specs.Prelude.{◌≡◌};
-ghost use Rattle.memory.specs.Halves.{pair_count, pair_few, pair_four, pair_holds};
+ghost use Rattle.memory.specs.Halves.{halving, pair_count, pair_few, pair_four, pair_holds};
+ghost use Rattle.memory.specs.Words.{Own};
 
 use crate::fault::MemoryFault;
-use crate::memory::Memory;
+use crate::memory::{Memory, number_below};
 use base::block::{PhysicalBlock, Words};
 use base::size::MOST_BLOCKS;
 
@@ -13,6 +14,13 @@ pub struct Pair<A, B> {
     odd: B,
 }
 
+// Which of the two memories a block is in, and which block of that one it is.
+#[derive(Clone, Copy)]
+enum Half {
+    Even(PhysicalBlock),
+    Odd(PhysicalBlock),
+}
+
 impl<A: Memory, B: Memory> Pair<A, B> {
     pub fn new(even: A, odd: B) -> Pair<A, B>
         ensures evens { result.even ≡ even }
@@ -20,6 +28,20 @@ impl<A: Memory, B: Memory> Pair<A, B> {
         ensures sound { A.Memory.sound even → B.Memory.sound odd → A.Memory.sound result.even × B.Memory.sound result.odd }
     {
         Pair { even, odd }
+    }
+
+    // Where a block of the pair is kept.
+    fn half_of(&self, block: PhysicalBlock) -> Result<Half, MemoryFault>
+        ensures answer { A.Memory.sound self.now.even → B.Memory.sound self.now.odd → result ≡ halving (pair_count (A.Memory.count self.now.even) (B.Memory.count self.now.odd)) block }
+        ensures own { Own block result }
+    {
+        let number = number_below(self.count_blocks(), block)?;
+        let at = PhysicalBlock::from(number / 2);
+        Ok(if number % 2 == 0 {
+            Half::Even(at)
+        } else {
+            Half::Odd(at)
+        })
     }
 
     // The two memories are handed back.
@@ -50,36 +72,18 @@ impl<A: Memory, B: Memory> Memory for Pair<A, B> {
     }
 
     fn read(&mut self, block: PhysicalBlock) -> Result<Words, MemoryFault> {
-        let number = u16::from(block);
-        if number >= self.count_blocks() {
-            return Err(MemoryFault::Outside { block });
-        }
-        let half = PhysicalBlock::from(number / 2);
-        let answer = if number % 2 == 0 {
-            self.even.read(half)
-        } else {
-            self.odd.read(half)
+        let answer = match self.half_of(block)? {
+            Half::Even(at) => self.even.read(at),
+            Half::Odd(at) => self.odd.read(at),
         };
-        match answer {
-            Ok(words) => Ok(words),
-            Err(_) => Err(MemoryFault::Outside { block }),
-        }
+        answer.map_err(|_| MemoryFault::Outside { block })
     }
 
     fn write(&mut self, block: PhysicalBlock, words: Words) -> Result<(), MemoryFault> {
-        let number = u16::from(block);
-        if number >= self.count_blocks() {
-            return Err(MemoryFault::Outside { block });
-        }
-        let half = PhysicalBlock::from(number / 2);
-        let answer = if number % 2 == 0 {
-            self.even.write(half, words)
-        } else {
-            self.odd.write(half, words)
+        let answer = match self.half_of(block)? {
+            Half::Even(at) => self.even.write(at, words),
+            Half::Odd(at) => self.odd.write(at, words),
         };
-        match answer {
-            Ok(()) => Ok(()),
-            Err(_) => Err(MemoryFault::Outside { block }),
-        }
+        answer.map_err(|_| MemoryFault::Outside { block })
     }
 }

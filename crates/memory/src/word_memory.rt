@@ -4,7 +4,7 @@ ghost use Rattle.memory.specs.Slices.{block_at, few_blocks, four_at, stored, who
 ghost use Rattle.memory.specs.Words.{Own, put, reading, writing, written};
 
 use crate::fault::MemoryFault;
-use crate::memory::Memory;
+use crate::memory::{Memory, number_below};
 use base::block::{PhysicalBlock, Words};
 use base::size::{BLOCK_WORDS, MOST_BLOCKS};
 
@@ -32,16 +32,24 @@ impl<'a> WordMemory<'a> {
         words
     }
 
+    // The words of a block that is there.
+    fn fetch(&self, number: u16) -> Words
+        requires { number < whole_blocks self.now.words.now }
+        ensures { result ≡ block_at self.now.words.now number }
+    {
+        let at = BLOCK_WORDS * usize::from(number);
+        let mut words = [0; BLOCK_WORDS];
+        words.copy_from_slice(&self.words[at..at + BLOCK_WORDS]);
+        words
+    }
+
     // Replaces the four words from a place on.
     fn replace(&mut self, at: usize, words: Words)
         requires { at + 3 < length self.old.words.now }
         ensures list { self.new.words.now ≡ four_at self.old.words.now at words }
         ensures named { self.new.words.ghost_name ≡ self.old.words.ghost_name }
     {
-        self.words[at] = words[0];
-        self.words[at + 1] = words[1];
-        self.words[at + 2] = words[2];
-        self.words[at + 3] = words[3];
+        self.words[at..at + BLOCK_WORDS].copy_from_slice(&words);
     }
 
     // Replaces the words of a block that is there.
@@ -52,7 +60,7 @@ impl<'a> WordMemory<'a> {
         ensures list { self.new.words.now ≡ four_at self.old.words.now (block_words * number) words }
         ensures named { self.new.words.ghost_name ≡ self.old.words.ghost_name }
     {
-        self.replace(BLOCK_WORDS * number as usize, words);
+        self.replace(BLOCK_WORDS * usize::from(number), words);
     }
 }
 
@@ -71,12 +79,7 @@ impl<'a> Memory for WordMemory<'a> {
     fn count_blocks(&self) -> u16
         ensures { Unit {0} → result ≡ whole_blocks self.now.words.now }
     {
-        let whole = self.words.len() / BLOCK_WORDS;
-        if whole < MOST_BLOCKS as usize {
-            whole as u16
-        } else {
-            MOST_BLOCKS
-        }
+        (self.words.len() / BLOCK_WORDS).min(usize::from(MOST_BLOCKS)) as u16
     }
 
     // Besides what the trait says: the words are as they were.
@@ -89,17 +92,8 @@ impl<'a> Memory for WordMemory<'a> {
         ensures list { self.new.words.now ≡ self.old.words.now }
         ensures named { self.new.words.ghost_name ≡ self.old.words.ghost_name }
     {
-        let number = u16::from(block);
-        if number >= self.count_blocks() {
-            return Err(MemoryFault::Outside { block });
-        }
-        let at = BLOCK_WORDS * number as usize;
-        Ok([
-            self.words[at],
-            self.words[at + 1],
-            self.words[at + 2],
-            self.words[at + 3],
-        ])
+        let number = number_below(self.count_blocks(), block)?;
+        Ok(self.fetch(number))
     }
 
     // Besides what the trait says: the words of no other block, and none past the last, are altered.
@@ -112,10 +106,7 @@ impl<'a> Memory for WordMemory<'a> {
         ensures list { self.new.words.now ≡ stored self.old.words.now block words }
         ensures named { self.new.words.ghost_name ≡ self.old.words.ghost_name }
     {
-        let number = u16::from(block);
-        if number >= self.count_blocks() {
-            return Err(MemoryFault::Outside { block });
-        }
+        let number = number_below(self.count_blocks(), block)?;
         self.store(number, words);
         Ok(())
     }
