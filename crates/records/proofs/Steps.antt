@@ -1,5 +1,5 @@
 -- How a trace goes on record by record: for loops that decode one record a turn.
-use Rattle.std.proofs.Common.{◌≡◌, ℕ, zero, suc, ◌+◌, ◌<◌, ◌≤◌, Bool, List, [], ◌∷◌, ◌++◌, length, Ok, Err, Option, Result, sym, refl, ap, ◌∙◌, append_assoc, arith}
+use Rattle.std.proofs.Common.{◌≡◌, ℕ, zero, suc, ◌+◌, ◌<◌, ◌≤◌, Bool, List, [], ◌∷◌, ◌++◌, length, Ok, Err, Result, sym, refl, ap, ◌∙◌, arith}
 use Rattle.records.specs.Records.{decoded, record_by, record_of, checked_kind, kind_of, write_of, device_write_of}
 use Rattle.records.specs.Traces.{Trace, carried, ended, in_front, stopped, trace_from}
 use Rattle.records.specs.declared.fault.FormatFault.{FormatFault}
@@ -85,14 +85,3 @@ trace_ends n l (w ∷ ws) h = absurd (omega arith)
 -- a trace behind the records that were read before it
 abbrev pub behind : List Record → Trace → Trace
 behind rs t = record { records = rs ++ t.records; fault = t.fault }
-
--- one turn of the loop that reads a trace
-pub behind_more : (out out' : List Record) (n : ℕ) (l : Bool) (ws rest : List ℕ) (r : Record) (all : Trace)
-    → out' ≡ out ++ (r ∷ []) → Ok (r, rest) ≡ decoded n ws → all ≡ behind out (trace_from (length ws) n l ws)
-    → all ≡ behind out' (trace_from (length rest) (n + 1) l rest)
-behind_more out out' n l ws rest r all e d inv =
-    let t = trace_from (length rest) (n + 1) l rest in
-    let f : Option FormatFault = t.fault in
-    inv ∙ (ap (behind out) (trace_more n l ws rest r d)
-    ∙ (ap (λ (rs : List Record). record { records = rs; fault = f }) (sym (append_assoc out (r ∷ []) t.records))
-    ∙ ap (λ (rs : List Record). behind rs t) (sym e)))

@@ -3,3 +3,4 @@ pub mod Records
 pub mod Bytes
 pub mod Traces
 pub mod Read
+pub mod Told

@@ -1,5 +1,6 @@
 -- The format of a trace's records: big-endian words of 32 bits.
-use Rattle.std.specs.Prelude.{ℕ, ◌+◌, ◌-◌, ◌/◌, ◌%◌, ◌^◌, ◌<◌, cond, List, [], ◌∷◌, Some, None, Ok, Err, Option, Result, ◌==◌, bit_and}
+use Rattle.std.specs.Prelude.{ℕ, ◌+◌, ◌-◌, ◌/◌, ◌%◌, ◌^◌, ◌<◌, if◌then◌else◌, List, [], ◌∷◌, Some, None, Ok, Err, Option, Result, ◌==◌, bit_and}
+use Rattle.std.specs.Option.{ok_or}
 use Rattle.std.specs.Borrow.{Bor}
 use Rattle.base.specs.Sizes.{addresses, frames, pages, processes}
 use Rattle.base.specs.declared.block.Frame.{Frame}
@@ -10,6 +11,7 @@ use Rattle.records.specs.declared.fault.FormatFault.{FormatFault}
 use Rattle.records.specs.declared.fault.FormatFault.TheVariants.{UnknownKind, UnnamedBit, CutShort}
 use Rattle.records.specs.declared.record.Kind.{Kind}
 use Rattle.records.specs.declared.record.Kind.TheVariants.{Read as ReadKind, Write as WriteKind, Switch as SwitchKind, Enter as EnterKind, Erase as EraseKind, DeviceRead as DeviceReadKind, DeviceWrite as DeviceWriteKind}
+use Rattle.records.specs.declared.record.NoKind.{NoKind}
 use Rattle.records.specs.declared.record.ProcessorNumber.{ProcessorNumber}
 use Rattle.records.specs.declared.record.Record.{Record}
 use Rattle.records.specs.declared.record.Record.TheVariants.{Read, Write, Switch, Enter, Erase, DeviceRead, DeviceWrite}
@@ -25,13 +27,18 @@ span high low = 2 ^ (high + 1) - 2 ^ low
 -- the kind that a number names
 abbrev pub kind_numbered : ℕ → Option Kind
 kind_numbered n =
-    cond (n == 1) (Some ReadKind)
-    (cond (n == 2) (Some WriteKind)
-    (cond (n == 3) (Some SwitchKind)
-    (cond (n == 4) (Some EnterKind)
-    (cond (n == 5) (Some EraseKind)
-    (cond (n == 6) (Some DeviceReadKind)
-    (cond (n == 7) (Some DeviceWriteKind) None))))))
+    if n == 1 then Some ReadKind
+    else if n == 2 then Some WriteKind
+    else if n == 3 then Some SwitchKind
+    else if n == 4 then Some EnterKind
+    else if n == 5 then Some EraseKind
+    else if n == 6 then Some DeviceReadKind
+    else if n == 7 then Some DeviceWriteKind
+    else None
+
+-- that kind, or the number where it names none
+abbrev pub kind_named : ℕ → Result Kind NoKind
+kind_named n = ok_or (kind_numbered n) (record { 0 = n })
 
 -- the kind of a record, in the highest four bits of its first word
 abbrev pub kind_of : ℕ → Option Kind
@@ -126,7 +133,7 @@ record_of n DeviceWriteKind w rest = device_write_of n w rest
 -- the kind of the record n that begins with a word, all of whose set bits it names
 abbrev pub checked_kind : ℕ → ℕ → Option Kind → Result Kind FormatFault
 checked_kind n w None = Err (UnknownKind n)
-checked_kind n w (Some k) = cond (bit_and w (unnamed_bits k) == 0) (Ok k) (Err (UnnamedBit n))
+checked_kind n w (Some k) = if bit_and w (unnamed_bits k) == 0 then Ok k else Err (UnnamedBit n)
 
 -- the record of a checked kind
 abbrev pub record_by : ℕ → Result Kind FormatFault → ℕ → List ℕ → Result (Record × List ℕ) FormatFault

@@ -1,5 +1,6 @@
 -- A whole trace: its records, and the fault that ends it early.
-use Rattle.std.specs.Prelude.{ℕ, zero, suc, ◌+◌, ◌%◌, Bool, true, false, cond, not, List, [], ◌∷◌, length, Some, None, Ok, Err, Option, Result, ◌==◌, nat_lt}
+use Rattle.std.specs.Prelude.{ℕ, zero, suc, ◌+◌, ◌%◌, Bool, true, false, if◌then◌else◌, not, List, [], ◌∷◌, ◌++◌, map, length, Some, None, Ok, Err, Option, Result, ◌==◌, nat_lt}
+use Rattle.std.specs.List.{enumerate_from}
 use Rattle.records.specs.Bytes.{words_of}
 use Rattle.records.specs.Records.{decoded}
 use Rattle.records.specs.declared.fault.FormatFault.{FormatFault}
@@ -46,4 +47,15 @@ loose_after bs = not (length bs % 4 == 0)
 
 -- the trace of bytes
 abbrev pub trace_of : List ℕ → Trace
-trace_of bs = cond (nat_lt trace_bytes (length bs)) (stopped TooLong) (trace_from (length (words_of bs)) 0 (loose_after bs) (words_of bs))
+trace_of bs =
+    if nat_lt trace_bytes (length bs) then stopped TooLong
+    else trace_from (length (words_of bs)) 0 (loose_after bs) (words_of bs)
+
+-- a fault, told last
+abbrev pub told_last : Option FormatFault → List (Result (ℕ × Record) FormatFault)
+told_last None = []
+told_last (Some e) = Err e ∷ []
+
+-- a trace told in order: its records, each with its number, from n on, and then its fault
+abbrev pub told : ℕ → Trace → List (Result (ℕ × Record) FormatFault)
+told n t = map Ok (enumerate_from n t.records) ++ told_last t.fault

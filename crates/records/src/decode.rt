@@ -5,22 +5,6 @@ use crate::fault::FormatFault;
 use crate::record::{Kind, ProcessorNumber, Record};
 use base::block::{Frame, Page, PhysicalBlock, Process};
 
-// The kind of the record that begins with a word, where there is one.
-pub fn kind(word: u32) -> Option<Kind>
-    ensures { result ≡ kind_of word }
-{
-    match word >> 28 {
-        1 => Some(Kind::Read),
-        2 => Some(Kind::Write),
-        3 => Some(Kind::Switch),
-        4 => Some(Kind::Enter),
-        5 => Some(Kind::Erase),
-        6 => Some(Kind::DeviceRead),
-        7 => Some(Kind::DeviceWrite),
-        _ => None,
-    }
-}
-
 // The bits of a first word that its kind does not name, set.
 pub fn unnamed_bits(kind: Kind) -> u32
     ensures { result ≡ unnamed_bits kind }
@@ -83,9 +67,7 @@ fn block(first: u32) -> PhysicalBlock
 fn checked_kind(first: u32, record: u32) -> Result<Kind, FormatFault>
     ensures { result ≡ checked_kind «record» first (kind_of first) }
 {
-    let Some(kind) = kind(first) else {
-        return Err(FormatFault::UnknownKind { record });
-    };
+    let kind = Kind::try_from(first >> 28).map_err(|_| FormatFault::UnknownKind { record })?;
     if first & unnamed_bits(kind) != 0 {
         return Err(FormatFault::UnnamedBit { record });
     }
@@ -93,8 +75,7 @@ fn checked_kind(first: u32, record: u32) -> Result<Kind, FormatFault>
 }
 
 fn read(first: u32) -> Record
-    ensures value { result ≡ read_of first }
-    ensures within { InRange result }
+    ensures { result ≡ read_of first }
 {
     Record::Read {
         processor: processor(first),
@@ -103,8 +84,7 @@ fn read(first: u32) -> Record
 }
 
 fn switch(first: u32) -> Record
-    ensures value { result ≡ switch_of first }
-    ensures within { InRange result }
+    ensures { result ≡ switch_of first }
 {
     Record::Switch {
         processor: processor(first),
@@ -113,8 +93,7 @@ fn switch(first: u32) -> Record
 }
 
 fn enter(first: u32) -> Record
-    ensures value { result ≡ enter_of first }
-    ensures within { InRange result }
+    ensures { result ≡ enter_of first }
 {
     Record::Enter {
         process: process(first),
@@ -124,8 +103,7 @@ fn enter(first: u32) -> Record
 }
 
 fn erase(first: u32) -> Record
-    ensures value { result ≡ erase_of first }
-    ensures within { InRange result }
+    ensures { result ≡ erase_of first }
 {
     Record::Erase {
         process: process(first),
@@ -134,8 +112,7 @@ fn erase(first: u32) -> Record
 }
 
 fn device_read(first: u32) -> Record
-    ensures value { result ≡ device_read_of first }
-    ensures within { InRange result }
+    ensures { result ≡ device_read_of first }
 {
     Record::DeviceRead {
         block: block(first),
@@ -144,8 +121,7 @@ fn device_read(first: u32) -> Record
 
 // A write at the front of the words: two words.
 fn write(words: &[u32], record: u32) -> Result<(Record, &[u32]), FormatFault>
-    ensures value { seen result ≡ at_front «record» (write_of «record») words.now }
-    ensures within { IfOk result (λ p. InRange p.0) }
+    ensures { seen result ≡ at_front «record» (write_of «record») words.now }
 {
     match words {
         [first, value, rest @ ..] => {
@@ -162,8 +138,7 @@ fn write(words: &[u32], record: u32) -> Result<(Record, &[u32]), FormatFault>
 
 // A device write at the front of the words: five words.
 fn device_write(words: &[u32], record: u32) -> Result<(Record, &[u32]), FormatFault>
-    ensures value { seen result ≡ at_front «record» (device_write_of «record») words.now }
-    ensures within { IfOk result (λ p. InRange p.0) }
+    ensures { seen result ≡ at_front «record» (device_write_of «record») words.now }
 {
     match words {
         [first, a, b, c, d, rest @ ..] => {

@@ -1,6 +1,7 @@
 ghost use Rattle.std.specs.Prelude.{◌≡◌, Some};
 ghost use Rattle.records.specs.Faults.{layer_of, meaning_of, number_of, place_of, shown_as};
 
+use base::fault::Fault;
 use base::layer::Layer;
 use std::fmt;
 
@@ -14,11 +15,18 @@ pub enum FormatFault {
     ShortBuffer { record: u32 },
 }
 
-impl FormatFault {
-    // The number that a listing shows for the fault.
-    pub fn number(self) -> u8
-        ensures { result ≡ number_of self }
-    {
+// The place of a fault is the record at which it came about.
+impl Fault for FormatFault {
+    ghost use Rattle.std.proofs.Common.{lit<, lit≤};
+    ghost use Rattle.records.specs.declared.fault.FormatFault.TheVariants.{CutShort, ShortBuffer, TooLong, UnknownKind, UnnamedBit};
+
+    ghost number_of = { number_of };
+
+    ghost layer_of = { layer_of };
+
+    ghost place_of = { place_of };
+
+    fn number(self) -> u8 {
         match self {
             FormatFault::TooLong => 15,
             FormatFault::UnknownKind { record: _ } => 16,
@@ -28,17 +36,11 @@ impl FormatFault {
         }
     }
 
-    // The layer that the fault comes from.
-    pub fn layer(self) -> Layer
-        ensures { result ≡ layer_of self }
-    {
+    fn layer(self) -> Layer {
         Layer::Trace
     }
 
-    // The record at which the fault came about.
-    pub fn place(self) -> u32
-        ensures { result ≡ place_of self }
-    {
+    fn place(self) -> u32 {
         match self {
             FormatFault::TooLong => 0,
             FormatFault::UnknownKind { record }
@@ -48,6 +50,10 @@ impl FormatFault {
         }
     }
 
+    ghost numbered = { elim [ TooLong ↦ (lit< tt, lit≤ tt) | UnknownKind _ ↦ (lit< tt, lit≤ tt) | UnnamedBit _ ↦ (lit< tt, lit≤ tt) | CutShort _ ↦ (lit< tt, lit≤ tt) | ShortBuffer _ ↦ (lit< tt, lit≤ tt) ] };
+}
+
+impl FormatFault {
     // What the fault is, in words.
     pub fn meaning(self) -> &'static str
         ensures { result.now ≡ meaning_of self }

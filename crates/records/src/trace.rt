@@ -1,10 +1,10 @@
-ghost use Rattle.std.specs.Prelude.{◌≡◌, ◌^◌, ◌<◌, ◌≤◌, length, Some, Err};
+ghost use Rattle.std.specs.Prelude.{◌≡◌, ◌≤◌, length, Some, Err};
 ghost use Rattle.records.specs.declared.trace.TraceError.TheVariants.{Format, NoMemory};
 ghost use Rattle.records.specs.Read.{Reads, shown_error};
-ghost use Rattle.records.specs.Traces.{trace_bytes, trace_from, trace_of};
+ghost use Rattle.records.specs.Traces.{trace_bytes, trace_of};
 
-use crate::decode::decode;
 use crate::fault::FormatFault;
+use crate::iter::Records;
 use crate::record::Record;
 use crate::words::words_of;
 use std::alloc::{AllocError, AllocFailed, Global};
@@ -20,6 +20,7 @@ pub enum TraceError {
     NoMemory,
 }
 
+// Conversions by hand, since clauses name the error that a `?` makes, and a derived one promises nothing of it.
 impl From<FormatFault> for TraceError {
     ghost from_gives = { λ e r. r ≡ Format e };
 
@@ -55,26 +56,6 @@ impl fmt::Display for TraceError {
     }
 }
 
-// The records of the words, where `loose` says that bytes are left over after them.
-fn records_of(heap: Global, words: &[u32], loose: bool) -> Result<Vec<Record>, TraceError>
-    requires { length words.now < 2 ^ 32 }
-    ensures { Reads (trace_from (length words.now) 0 loose words.now) result }
-{
-    let mut records = Vec::new(heap);
-    let mut at = 0;
-    let mut rest = words;
-    while rest.len() > 0 {
-        let (next, after) = decode(rest, at)?;
-        records.push(next)?;
-        rest = after;
-        at += 1;
-    }
-    if loose {
-        return Err(TraceError::Format(FormatFault::CutShort { record: at }));
-    }
-    Ok(records)
-}
-
 // All records of a trace, or its first fault. A trace that is too long is refused before memory is asked for.
 pub fn read_trace(heap: Global, bytes: &[u8]) -> Result<Vec<Record>, TraceError>
     ensures value { Reads (trace_of bytes.now) result }
@@ -84,5 +65,10 @@ pub fn read_trace(heap: Global, bytes: &[u8]) -> Result<Vec<Record>, TraceError>
         return Err(TraceError::Format(FormatFault::TooLong));
     }
     let words = words_of(heap, bytes)?;
-    records_of(heap, &words, bytes.len() % 4 != 0)
+    let mut records = Vec::new(heap);
+    for next in Records::new(&words, bytes.len() % 4 != 0) {
+        let (_, record) = next?;
+        records.push(record)?;
+    }
+    Ok(records)
 }

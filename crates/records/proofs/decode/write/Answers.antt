@@ -3,4 +3,4 @@ use Rattle.records.proofs.Fronts.{write_front}
 use Rattle.records.proofs.decode.write.Goals as goal
 
 pub returns-in-len2-up : goal.returns-in-len2-up
-returns-in-len2-up c = record { value = search (rules, write_front); within = search rules }
+returns-in-len2-up c = search (rules, write_front)

@@ -1,20 +1,17 @@
-use Rattle.std.proofs.Common.{◌≡◌, length, ap, ◌∙◌, arith}
-use Rattle.records.proofs.Answered.{reads_words}
+use Rattle.std.proofs.Common.{◌≡◌, length, refl, ap, ◌∙◌, arith}
+use Rattle.records.proofs.Answered.{heard_words}
 use Rattle.records.proofs.Whole.{words_length}
 use Rattle.records.proofs.trace.read_trace.Goals as goal
 use Rattle.records.specs.Bytes.{words_of}
+use Rattle.records.specs.Told.{told_by}
 
-pub records_of-requires : goal.records_of-requires
-records_of-requires c =
+pub new-next-items-requires : goal.new-next-items-requires
+new-next-items-requires c =
     let w : c.deref.result.now ≡ words_of c.args.bytes.now = c.deref.ensures.value ∙ c.in_ok-words.ensures in
     omega (arith, ap length w, words_length c.args.bytes.now)
 
-pub returns : goal.returns
-returns c =
-    let short = c.if-bytes-gt-TRACE_BYTES.false in
-    record {
-      value =
-          reads_words c.args.bytes.now c.deref.result.now c.records_of.result short
-          (c.deref.ensures.value ∙ c.in_ok-words.ensures) c.records_of.ensures;
-      memory = λ e. short;
-    }
+pub loop-next-init : goal.loop-next-init
+loop-next-init c =
+    let h = heard_words c.args.bytes.now c.deref.result.now (told_by c.into_iter-next-iterator.result) c.if-bytes-gt-TRACE_BYTES.false (c.deref.ensures.value ∙ c.in_ok-words.ensures)
+    (ap told_by c.into_iter-next-iterator.ensures.into_iter_gives ∙ c.new-next-items.ensures) in
+    rw (c.new-records.ensures.items, h) refl
