@@ -1,5 +1,5 @@
 -- The words of bytes.
-use Rattle.std.proofs.Common.{◌≡◌, ℕ, zero, suc, ◌/◌, ◌≤◌, List, [], ◌∷◌, length, map, ap, w32, refl, arith}
+use Rattle.std.proofs.Common.{◌≡◌, ℕ, zero, suc, ◌*◌, ◌/◌, ◌≤◌, List, [], ◌∷◌, length, map, ap, w32, refl, arith}
 use Rattle.records.specs.Bytes.{words_of}
 use Rattle.std.specs.Int.{from_be_bytes}
 use Rattle.std.specs.Simd.{first_chunks}
@@ -20,8 +20,8 @@ chunk_words (suc n) (a ∷ b ∷ c ∷ d ∷ rest) e = ap (λ (ws : List ℕ). f
 pub words_chunks : (bs : List ℕ) → map (from_be_bytes w32) (first_chunks 4 (length bs / 4) bs) ≡ words_of bs
 words_chunks bs = chunk_words (length bs / 4) bs refl
 
--- there are at most as many words as bytes
-pub words_length : (bs : List ℕ) → length (words_of bs) ≤ length bs
+-- four bytes make a word
+pub words_length : (bs : List ℕ) → 4 * length (words_of bs) ≤ length bs
 words_length [] = omega arith
 words_length (a ∷ []) = omega arith
 words_length (a ∷ b ∷ []) = omega arith

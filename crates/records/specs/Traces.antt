@@ -11,6 +11,10 @@ use Rattle.records.specs.declared.record.Record.{Record}
 abbrev pub trace_bytes : ℕ
 trace_bytes = 65536
 
+-- the most words that it has
+abbrev pub trace_words : ℕ
+trace_words = 16384
+
 -- the records up to the first fault, and that fault
 pub record Trace : Type 0 where
   pub records : List Record

@@ -1,8 +1,11 @@
-ghost use Rattle.std.specs.Prelude.{◌≡◌, ◌+◌, ◌^◌, ◌<◌, length};
+ghost use Rattle.std.specs.Prelude.{◌+◌, ◌^◌, ◌<◌, length};
 
 use crate::decode::decode;
 use crate::fault::FormatFault;
 use crate::record::Record;
+
+// the most words that a trace has
+pub const TRACE_WORDS: usize = 16_384;
 
 // The records of a trace's words, one after another, each with its number, and then the trace's fault, if it has one.
 // `loose` says that bytes are left over after the words: they begin a record that is cut short.
@@ -15,19 +18,20 @@ pub struct Records<'a> {
 }
 
 impl<'a> Records<'a> {
-    ghost use Rattle.records.specs.Told.{told_by};
-    ghost use Rattle.records.specs.Traces.{told, trace_from};
+    ghost use Rattle.records.specs.Told.{Begins};
 
-    // All records of the words, counted from 0.
-    pub fn new(words: &'a [u32], loose: bool) -> Records<'a>
-        requires { length words.now < 2 ^ 32 }
-        ensures { told_by result ≡ told 0 (trace_from (length words.now) 0 loose words.now) }
+    // All records of the words, counted from 0. Refused where there are more words than a trace has.
+    pub fn new(words: &'a [u32], loose: bool) -> Result<Records<'a>, FormatFault>
+        ensures { Begins loose words.now result }
     {
-        Records {
+        if words.len() > TRACE_WORDS {
+            return Err(FormatFault::TooLong);
+        }
+        Ok(Records {
             words,
             loose,
             number: 0,
-        }
+        })
     }
 }
 
