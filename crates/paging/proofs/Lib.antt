@@ -1,1 +1,1 @@
-pub mod Agreement
+pub mod Flat

@@ -1,5 +1,5 @@
 -- What a map means, and what its calls answer and change.
-use Rattle.std.specs.Prelude.{◌≡◌, ℕ, ◌+◌, ◌*◌, ◌%◌, ◌<◌, Bool, true, cond, ◌&&◌, List, Some, None, Ok, Err, Option, Result, ◌==◌, nat_lt, slice_index_or, slice_set}
+use Rattle.std.specs.Prelude.{◌≡◌, ℕ, ◌+◌, ◌*◌, ◌%◌, ◌<◌, Bool, true, ◌&&◌, List, Some, None, Ok, Err, Option, Result, ◌==◌, if◌then◌else◌, nat_lt, slice_index_or, slice_set}
 use Rattle.base.specs.Blocks.{in_page, page_of}
 use Rattle.base.specs.Sizes.{frames, page_blocks, pages, processes}
 use Rattle.base.specs.declared.block.Frame.{Frame}
@@ -28,7 +28,7 @@ found None page = Err (NoFrame page)
 
 -- what the look-up of a page answers
 abbrev pub looked : Frames → Process → Page → Result Frame MapFault
-looked m p g = cond (named p.0 g.0) (found (m p.0 g.0) g) (Err (OutOfRange g))
+looked m p g = if named p.0 g.0 then found (m p.0 g.0) g else Err (OutOfRange g)
 
 -- the block of a frame that stands where a virtual block stands in its page
 abbrev pub block_in : ℕ → ℕ → PhysicalBlock
@@ -52,14 +52,14 @@ unmapped p g = None
 
 -- one entry replaced
 abbrev pub entry : Frames → ℕ → ℕ → Option ℕ → Frames
-entry m p g o q h = cond (q == p && h == g) o (m q h)
+entry m p g o q h = if q == p && h == g then o else m q h
 
 -- a call that changes one entry: what it answers, and the map's meaning after it
 abbrev pub changing : Bool → Page → Result (Unit {0}) MapFault
-changing ok page = cond ok (Ok tt) (Err (OutOfRange page))
+changing ok page = if ok then Ok tt else Err (OutOfRange page)
 
 abbrev pub changed : Bool → Frames → ℕ → ℕ → Option ℕ → Frames
-changed ok m p g o = cond ok (entry m p g o) m
+changed ok m p g o = if ok then entry m p g o else m
 
 -- enter is taken where process, page and frame are in their ranges
 abbrev pub enters : Process → Page → Frame → Bool
@@ -67,7 +67,7 @@ enters p g f = named p.0 g.0 && nat_lt f.0 frames
 
 -- the straight map: page g of process p at frame (g + 8 p) modulo 64
 abbrev pub straight : Frames
-straight p g = cond (named p g) (Some ((g + page_blocks * p) % frames)) None
+straight p g = if named p g then Some ((g + page_blocks * p) % frames) else None
 
 -- the flat table: process after process, page after page
 abbrev pub number_of : Option Frame → Option ℕ
@@ -78,7 +78,7 @@ abbrev pub slot : ℕ → ℕ → ℕ
 slot p g = p * pages + g
 
 abbrev pub slot_of : ℕ → ℕ → Option ℕ
-slot_of p g = cond (named p g) (Some (slot p g)) None
+slot_of p g = if named p g then Some (slot p g) else None
 
 -- the entries with one of them replaced, where there is a slot for it
 abbrev pub entry_put : Option ℕ → List (Option Frame) → Option Frame → List (Option Frame)
@@ -86,7 +86,7 @@ entry_put (Some i) es o = slice_set es i o
 entry_put None es o = es
 
 abbrev pub flat : List (Option Frame) → Frames
-flat es p g = cond (named p g) (number_of (slice_index_or es (slot p g) None)) None
+flat es p g = if named p g then number_of (slice_index_or es (slot p g) None) else None
 
 -- every frame in the table is in its range
 abbrev pub Small : List (Option Frame) → Type 0

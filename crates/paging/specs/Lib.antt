@@ -1,5 +1,3 @@
 pub mod Fault
 pub mod Frames
 pub mod Places
-pub mod Flat
-pub mod Cells

@@ -1,7 +1,9 @@
-ghost use Rattle.std.specs.Prelude.{◌≡◌};
-ghost use Rattle.paging.specs.Fault.{fault_layer, fault_number, fault_place};
+ghost use Rattle.std.specs.Prelude.{Some};
+ghost use Rattle.std.proofs.Common.{rules};
+ghost use Rattle.paging.specs.Fault.{fault_layer, fault_number, fault_place, fault_text};
 
 use base::block::Page;
+use base::fault::Fault;
 use base::layer::Layer;
 use std::fmt;
 
@@ -14,44 +16,47 @@ pub enum MapFault {
     OutOfRange { page: Page },
 }
 
-impl MapFault {
-    pub fn number(self) -> u8
-        ensures { result ≡ fault_number self }
-    {
+impl Fault for MapFault {
+    ghost number_of = { fault_number };
+
+    ghost layer_of = { fault_layer };
+
+    ghost place_of = { fault_place };
+
+    ghost numbered = { Prim.search rules };
+
+    fn number(self) -> u8 {
         match self {
             MapFault::NoFrame { page: _ } => 6,
             MapFault::OutOfRange { page: _ } => 9,
         }
     }
 
-    pub fn layer(self) -> Layer
-        ensures { result ≡ fault_layer self }
-    {
+    fn layer(self) -> Layer {
         Layer::Map
     }
 
-    pub fn place(self) -> u32
-        ensures { result ≡ fault_place self }
-    {
+    // The page that was asked for.
+    fn place(self) -> u32 {
         match self {
-            MapFault::NoFrame { page } => u32::from(page.0),
-            MapFault::OutOfRange { page } => u32::from(page.0),
+            MapFault::NoFrame { page } | MapFault::OutOfRange { page } => u32::from(page.0),
         }
     }
 }
 
 impl fmt::Display for MapFault {
+    ghost output = { λ x. Some (fault_text x) };
+
     fn fmt<W: fmt::Write>(&self, f: &mut fmt::Formatter<W>) -> fmt::Result {
-        let number = self.number();
-        let page = self.place();
-        match self {
-            MapFault::NoFrame { page: _ } => {
-                write!(f, "page {page}, number {number}: the page has no frame")
-            }
-            MapFault::OutOfRange { page: _ } => write!(
-                f,
-                "page {page}, number {number}: process, page or frame is out of range"
-            ),
-        }
+        let reason = match self {
+            MapFault::NoFrame { page: _ } => "the page has no frame",
+            MapFault::OutOfRange { page: _ } => "process, page or frame is out of range",
+        };
+        write!(
+            f,
+            "page {}, number {}: {reason}",
+            self.place(),
+            self.number()
+        )
     }
 }

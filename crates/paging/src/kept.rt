@@ -1,12 +1,9 @@
 use base::block::{Frame, Page, Process};
 
-// One place of a translation buffer.
-#[derive(Clone, Copy)]
-pub enum Place {
-    Empty,
-    Holds {
-        process: Process,
-        page: Page,
-        frame: Frame,
-    },
+// What one place of a translation buffer keeps: the frame of a page.
+#[derive(Clone, Copy, Debug, PartialEq, Eq)]
+pub struct Kept {
+    pub process: Process,
+    pub page: Page,
+    pub frame: Frame,
 }

@@ -3,7 +3,7 @@ ghost use Rattle.paging.specs.Frames.{Within, block_in, changed, changing, enter
 
 use crate::fault::MapFault;
 use base::block::{Frame, Page, PhysicalBlock, Process, VirtualBlock};
-use base::size::PAGE_BLOCKS;
+use base::size::{PAGE_BLOCKS, PAGES, PROCESSES};
 
 // From the pages of processes to frames.
 pub trait Map {
@@ -37,6 +37,17 @@ pub(crate) fn block_in(frame: Frame, block: VirtualBlock) -> PhysicalBlock
     ensures { result ≡ block_in frame.0 block.0 }
 {
     PhysicalBlock::from(u16::from(frame.0) * PAGE_BLOCKS + block.in_page())
+}
+
+// Refuses a process or a page that is out of its range.
+pub(crate) fn check_named(process: Process, page: Page) -> Result<(), MapFault>
+    ensures { result ≡ changing (named process.0 page.0) page }
+{
+    if process.0 < PROCESSES && page.0 < PAGES {
+        Ok(())
+    } else {
+        Err(MapFault::OutOfRange { page })
+    }
 }
 
 // A map whose entries can be changed.

@@ -2,9 +2,9 @@ ghost use Rattle.paging.specs.Frames.{straight};
 ghost use Rattle.std.proofs.Common.{rules};
 
 use crate::fault::MapFault;
-use crate::map::Map;
+use crate::map::{Map, check_named};
 use base::block::{Frame, Page, Process};
-use base::size::{FRAMES, PAGE_BLOCKS, PAGES, PROCESSES};
+use base::size::{FRAMES, PAGE_BLOCKS};
 
 // Page g of process p at frame (g + 8 p) modulo 64.
 #[derive(Clone, Copy, Debug, PartialEq, Eq)]
@@ -18,9 +18,7 @@ impl Map for StraightMap {
     ghost within = { Prim.search rules };
 
     fn frame_of(&mut self, process: Process, page: Page) -> Result<Frame, MapFault> {
-        if process.0 >= PROCESSES || page.0 >= PAGES {
-            return Err(MapFault::OutOfRange { page });
-        }
+        check_named(process, page)?;
         let frame = (page.0 + PAGE_BLOCKS * u16::from(process.0)) % u16::from(FRAMES);
         Ok(Frame(frame as u8))
     }

@@ -1,14 +1,16 @@
-ghost use Rattle.std.specs.Prelude.{◌≡◌, ◌*◌, true, length, replicate, Some, None, Option};
+ghost use Rattle.std.specs.Prelude.{◌≡◌, ◌*◌, true, length, replicate, Some, None, Option, ok_or};
 ghost use Rattle.base.specs.Sizes.{pages, processes};
 ghost use Rattle.paging.specs.Frames.{Small, changing, entry_put, flat, named, slot_of, unmapped};
-ghost use Rattle.paging.specs.Flat.{flat_within};
+ghost use Rattle.std.proofs.Common.{rules};
+ghost use Rattle.std.proofs.lemmas.Grind.{common_steps};
+ghost use Rattle.paging.specs.declared.fault.MapFault.TheVariants.{OutOfRange};
 
 use crate::fault::MapFault;
-use crate::map::{ChangeableMap, Map};
+use crate::map::{ChangeableMap, Map, check_named};
 use base::block::{Frame, Page, Process};
 use base::size::{FRAMES, PAGES, PROCESSES};
 
-const ENTRIES: usize = 512;
+const ENTRIES: usize = PROCESSES as usize * PAGES as usize;
 
 // A table with an entry for each page of each process.
 #[derive(Clone, Copy)]
@@ -16,6 +18,7 @@ pub struct FlatTable {
     entries: [Option<Frame>; ENTRIES],
 }
 
+// In a function of its own, so that the proof of what makes a table sees one list and not 512 entries.
 fn no_entries() -> [Option<Frame>; ENTRIES]
     ensures { result ≡ replicate (processes * pages) None }
 {
@@ -39,23 +42,18 @@ impl FlatTable {
         ensures size { named process.0 page.0 ≡ true → length self.old.entries ≡ processes * pages }
         ensures entries { self.new.entries ≡ entry_put (slot_of process.0 page.0) self.old.entries entry }
     {
-        let Some(slot) = slot_of(process, page) else {
-            return Err(MapFault::OutOfRange { page });
-        };
+        let slot = slot_of(process, page)?;
         self.entries[slot] = entry;
         Ok(())
     }
 }
 
 // Where the entry of a page stands, if process and page are in their ranges.
-fn slot_of(process: Process, page: Page) -> Option<usize>
-    ensures { result ≡ slot_of process.0 page.0 }
+fn slot_of(process: Process, page: Page) -> Result<usize, MapFault>
+    ensures { result ≡ ok_or (slot_of process.0 page.0) (OutOfRange page) }
 {
-    if process.0 < PROCESSES && page.0 < PAGES {
-        Some(process.0 as usize * PAGES as usize + page.0 as usize)
-    } else {
-        None
-    }
+    check_named(process, page)?;
+    Ok(usize::from(process.0) * usize::from(PAGES) + usize::from(page.0))
 }
 
 impl Map for FlatTable {
@@ -63,20 +61,16 @@ impl Map for FlatTable {
 
     ghost sound = { λ s. Small s.entries };
 
-    ghost within = { λ s h. flat_within s.entries h };
+    ghost within = { Prim.search (rules, common_steps) };
 
     fn frame_of(&mut self, process: Process, page: Page) -> Result<Frame, MapFault> {
-        let Some(slot) = slot_of(process, page) else {
-            return Err(MapFault::OutOfRange { page });
-        };
-        match self.entries[slot] {
-            Some(frame) => Ok(frame),
-            None => Err(MapFault::NoFrame { page }),
-        }
+        let slot = slot_of(process, page)?;
+        self.entries[slot].ok_or(MapFault::NoFrame { page })
     }
 }
 
 impl ChangeableMap for FlatTable {
+    #[tactic(auto, using(crate::proofs::Flat::flat_entered))]
     fn enter(&mut self, process: Process, page: Page, to: Frame) -> Result<(), MapFault> {
         if to.0 >= FRAMES {
             return Err(MapFault::OutOfRange { page });
