@@ -12,7 +12,8 @@ use base::size::{FRAMES, PAGES, PROCESSES};
 
 const ENTRIES: usize = PROCESSES as usize * PAGES as usize;
 
-// A table with an entry for each page of each process.
+// A table with an entry for each page of each process, in one list and not in a list for each process: the words that
+// crates above use for a table's meaning (`flat`, `Small`) are of one list.
 #[derive(Clone, Copy)]
 pub struct FlatTable {
     entries: [Option<Frame>; ENTRIES],

@@ -1,11 +1,11 @@
 use base::block::{PhysicalBlock, Words};
+use base::fault::Fault;
 use base::layer::Layer;
 use memory::fault::MemoryFault;
 use memory::memory::Memory;
 use memory::pair::Pair;
 use memory::word_memory::WordMemory;
 use std::process::Abort;
-use std::test::Fail;
 
 // More words than the 512 blocks that a memory has at most.
 const LENGTH: usize = 2060;
@@ -16,23 +16,19 @@ const NEW: Words = [1, 2, 3, 4];
 
 // Puts 100, 101, 102 and so on into the words.
 fn fill(words: &mut [u32]) {
-    let mut next = OLD;
-    for word in words.iter_mut() {
+    for (word, next) in words.iter_mut().zip(OLD..) {
         *word = next;
-        next = next.wrapping_add(1);
     }
 }
 
 // The words are as `fill` left them but for the new four from a place on, if one is given.
 fn check_words(rt: &impl Abort, words: &[u32], written: Option<u32>) {
-    let mut place = 0u32;
-    for word in words {
+    for (word, place) in words.iter().zip(0u32..) {
         let expected = match written {
             Some(from) if from <= place && place - from < 4 => place - from + 1,
             _ => place.wrapping_add(OLD),
         };
         assert_eq!(rt; *word, expected, "word {place}");
-        place = place.wrapping_add(1);
     }
 }
 
@@ -53,7 +49,7 @@ fn check_write<M: Memory>(rt: &impl Abort, memory: &mut M, number: u16, words: W
 }
 
 // Read and write refuse a block as outside.
-fn check_refused<M: Memory>(rt: &impl Abort, memory: &mut M, number: u16) -> Result<(), Fail> {
+fn check_refused<M: Memory>(rt: &impl Abort, memory: &mut M, number: u16) {
     let block = PhysicalBlock::from(number);
     let outside = MemoryFault::Outside { block };
     assert_eq!(rt; memory.read(block), Err(outside), "block {number}");
@@ -61,48 +57,35 @@ fn check_refused<M: Memory>(rt: &impl Abort, memory: &mut M, number: u16) -> Res
     assert_eq!(rt; outside.number(), 12);
     assert_eq!(rt; outside.layer(), Layer::Memory);
     assert_eq!(rt; outside.place(), u32::from(number));
-    Ok(())
 }
 
 // There are so many blocks, the next is refused, and some hold the words given.
-fn check_blocks<M: Memory>(
-    rt: &impl Abort,
-    memory: &mut M,
-    count: u16,
-    blocks: &[(u16, Words)],
-) -> Result<(), Fail> {
+fn check_blocks<M: Memory>(rt: &impl Abort, memory: &mut M, count: u16, blocks: &[(u16, Words)]) {
     assert_eq!(rt; memory.count_blocks(), count);
-    check_refused(rt, memory, count)?;
+    check_refused(rt, memory, count);
     for (number, words) in blocks {
         check_read(rt, memory, *number, *words);
     }
-    Ok(())
 }
 
 // A block that holds the old words is written, and another is refused.
-fn check_block<M: Memory>(
-    rt: &impl Abort,
-    memory: &mut M,
-    number: u16,
-    old: Option<Words>,
-) -> Result<(), Fail> {
-    let Some(words) = old else {
-        return check_refused(rt, memory, number);
-    };
-    check_read(rt, memory, number, words);
-    check_write(rt, memory, number, NEW);
-    check_read(rt, memory, number, NEW);
-    Ok(())
+fn check_block<M: Memory>(rt: &impl Abort, memory: &mut M, number: u16, old: Option<Words>) {
+    match old {
+        Some(words) => {
+            check_read(rt, memory, number, words);
+            check_write(rt, memory, number, NEW);
+            check_read(rt, memory, number, NEW);
+        }
+        None => check_refused(rt, memory, number),
+    }
 }
 
-fn check_case(
-    rt: &impl Abort,
-    words: &mut [u32],
-    length: usize,
-    count: u16,
-    number: u16,
-    old: Option<Words>,
-) -> Result<(), Fail> {
+// How many words there are and how many blocks they make, and a block with the words that it holds,
+// if it is one of them.
+type Case = (usize, u16, u16, Option<Words>);
+
+fn check_case(rt: &impl Abort, words: &mut [u32], case: Case) {
+    let (length, count, number, old) = case;
     assert!(rt; length <= words.len());
     let words = &mut words[0..length];
     fill(words);
@@ -112,19 +95,15 @@ fn check_case(
         count,
         "block {number} of {length} words"
     );
-    check_block(rt, &mut memory, number, old)?;
-    let written = match old {
-        Some(_) => Some(4 * u32::from(number)),
-        None => None,
-    };
+    check_block(rt, &mut memory, number, old);
+    let written = old.map(|_| 4 * u32::from(number));
     check_words(rt, memory.into_words(), written);
-    Ok(())
 }
 
 #[test]
-fn words_as_memory(rt: HostRuntime) -> Result<(), Fail> {
+fn words_as_memory(rt: HostRuntime) {
     let words: &mut [u32] = &mut [0; LENGTH];
-    const CASES: [(usize, u16, u16, Option<Words>); 11] = [
+    const CASES: [Case; 11] = [
         (0, 0, 0, None),
         (1, 0, 0, None),
         (7, 1, 0, Some([100, 101, 102, 103])),
@@ -137,10 +116,9 @@ fn words_as_memory(rt: HostRuntime) -> Result<(), Fail> {
         (LENGTH, 512, 512, None),
         (LENGTH, 512, 65_535, None),
     ];
-    for (length, count, number, old) in CASES {
-        check_case(&rt, words, length, count, number, old)?;
+    for case in CASES {
+        check_case(&rt, words, case);
     }
-    Ok(())
 }
 
 fn check_pair<A: Memory + Drop, B: Memory + Drop>(
@@ -149,8 +127,8 @@ fn check_pair<A: Memory + Drop, B: Memory + Drop>(
     odd: B,
     count: u16,
     blocks: &[(u16, Words)],
-) -> Result<(), Fail> {
-    check_blocks(rt, &mut Pair::new(even, odd), count, blocks)
+) {
+    check_blocks(rt, &mut Pair::new(even, odd), count, blocks);
 }
 
 fn check_all(rt: &impl Abort, words: &[u32], expected: &[u32]) {
@@ -158,7 +136,7 @@ fn check_all(rt: &impl Abort, words: &[u32], expected: &[u32]) {
 }
 
 #[test]
-fn pair_takes_turns(rt: HostRuntime) -> Result<(), Fail> {
+fn pair_takes_turns(rt: HostRuntime) {
     let even: &mut [u32] = &mut [0, 1, 2, 3, 4, 5, 6, 7];
     let odd: &mut [u32] = &mut [20, 21, 22, 23, 24, 25, 26, 27, 28, 29, 30, 31];
     let mut pair = Pair::new(WordMemory::new(even), WordMemory::new(odd));
@@ -168,27 +146,26 @@ fn pair_takes_turns(rt: HostRuntime) -> Result<(), Fail> {
         (2, [4, 5, 6, 7]),
         (3, [24, 25, 26, 27]),
     ];
-    check_blocks(&rt, &mut pair, 4, &blocks)?;
+    check_blocks(&rt, &mut pair, 4, &blocks);
     check_write(&rt, &mut pair, 1, NEW);
     check_write(&rt, &mut pair, 2, [5, 6, 7, 8]);
     let (even, odd) = pair.into_parts();
     check_all(&rt, even.into_words(), &[0, 1, 2, 3, 5, 6, 7, 8]);
     let odd_words = [1, 2, 3, 4, 24, 25, 26, 27, 28, 29, 30, 31];
     check_all(&rt, odd.into_words(), &odd_words);
-    Ok(())
 }
 
 #[test]
-fn pair_of_pairs(rt: HostRuntime) -> Result<(), Fail> {
+fn pair_of_pairs(rt: HostRuntime) {
     let (a, b, c, d) = (&mut [0; 4], &mut [1; 4], &mut [2; 4], &mut [3; 4]);
     let first = Pair::new(WordMemory::new(a), WordMemory::new(b));
     let second = Pair::new(WordMemory::new(c), WordMemory::new(d));
     let blocks = [(0, [0; 4]), (1, [2; 4]), (2, [1; 4]), (3, [3; 4])];
-    check_pair(&rt, first, second, 4, &blocks)
+    check_pair(&rt, first, second, 4, &blocks);
 }
 
 #[test]
-fn pair_has_most_blocks(rt: HostRuntime) -> Result<(), Fail> {
+fn pair_has_most_blocks(rt: HostRuntime) {
     let (even, odd) = (&mut [0; 2048], &mut [1; 2048]);
     let blocks = [(510, [0; 4]), (511, [1; 4])];
     check_pair(
@@ -197,5 +174,5 @@ fn pair_has_most_blocks(rt: HostRuntime) -> Result<(), Fail> {
         WordMemory::new(odd),
         512,
         &blocks,
-    )
+    );
 }

@@ -1,4 +1,5 @@
 use base::block::{Frame, Page, PhysicalBlock, Process, VirtualBlock};
+use base::fault::Fault;
 use base::layer::Layer;
 use paging::buffer::TranslationBuffer;
 use paging::fault::MapFault;
@@ -18,15 +19,13 @@ fn check_fault<T: Drop>(
     number: u8,
     page: u16,
 ) -> Result<(), Fail> {
-    match answer {
-        Ok(_) => Err(Fail::new("not refused")),
-        Err(fault) => {
-            assert_eq!(rt; fault.number(), number, "page {page}");
-            assert_eq!(rt; fault.layer(), Layer::Map);
-            assert_eq!(rt; fault.place(), u32::from(page));
-            Ok(())
-        }
-    }
+    let Err(fault) = answer else {
+        return Err(Fail::new("not refused"));
+    };
+    assert_eq!(rt; fault.number(), number, "page {page}");
+    assert_eq!(rt; fault.layer(), Layer::Map);
+    assert_eq!(rt; fault.place(), u32::from(page));
+    Ok(())
 }
 
 // The page has this frame, or none.
