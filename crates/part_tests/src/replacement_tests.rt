@@ -17,16 +17,9 @@ const FROM_2: Choices = [0, 0, 1, 0, 2, 2, 2, 2, 3, 3, 3, 3, 2, 2, 2, 2];
 const FROM_3: Choices = [0, 0, 1, 0, 2, 0, 1, 0, 3, 3, 3, 3, 3, 3, 3, 3];
 
 fn check_choices<R: Rule>(rt: &impl Abort, rule: &R, word: u32, choices: Choices) {
-    let mut set = 0u8;
-    for choice in choices {
-        let asked = [
-            set % 2 == 1,
-            set / 2 % 2 == 1,
-            set / 4 % 2 == 1,
-            set / 8 % 2 == 1,
-        ];
-        assert_eq!(rt; rule.choose(word, asked), choice, "word {word}, set {set}");
-        set = set.wrapping_add(1);
+    for (set, choice) in choices.iter().enumerate() {
+        let asked = [set, set / 2, set / 4, set / 8].map(|rest| rest % 2 == 1);
+        assert_eq!(rt; rule.choose(word, asked), *choice, "word {word}, set {set}");
     }
 }
 

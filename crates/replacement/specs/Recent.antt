@@ -1,5 +1,6 @@
 -- Least recently used: what a word says, how it goes on, and which way is chosen by it.
-use Rattle.std.specs.Prelude.{ℕ, ◌+◌, ◌*◌, ◌/◌, ◌%◌, Bool, cond, List, [], ◌∷◌, ◌++◌, reverse, take, ◌==◌}
+use Rattle.std.specs.Prelude.{ℕ, ◌+◌, ◌*◌, ◌/◌, ◌%◌, Bool, not, List, [], ◌∷◌, ◌++◌, reverse, take, filter, ◌==◌}
+use Rattle.std.specs.List.{range_with_len}
 use Rattle.replacement.specs.Sizes.{ways}
 use Rattle.replacement.specs.Asked.{first_asked}
 
@@ -9,8 +10,7 @@ numbers w = (w % 4) ∷ (w / 4 % 4) ∷ (w / 16 % 4) ∷ (w / 64 % 4) ∷ []
 
 -- the numbers that differ from x, in their order
 abbrev pub without : ℕ → List ℕ → List ℕ
-without x [] = []
-without x (y ∷ ys) = cond (y == x) (without x ys) (y ∷ without x ys)
+without x ys = filter (λ y. not (y == x)) ys
 
 -- the word of some numbers, the first lowest
 abbrev pub pack : List ℕ → ℕ
@@ -23,7 +23,7 @@ renewed w x = pack ((x % ways) ∷ take 3 (without (x % ways) (numbers w)))
 
 -- the candidates for a choice: the numbers from the oldest to the newest, then every way from the lowest
 abbrev pub oldest_first : ℕ → List ℕ
-oldest_first w = reverse (numbers w) ++ (0 ∷ 1 ∷ 2 ∷ 3 ∷ [])
+oldest_first w = reverse (numbers w) ++ range_with_len 0 ways
 
 -- the way asked for that is the oldest of the numbers, or else the lowest
 abbrev pub oldest : ℕ → List Bool → ℕ

@@ -40,12 +40,7 @@ impl Rule for FirstIn {
 
     fn choose(&self, word: u32, asked: WaySet) -> u8 {
         let next = (word % WAYS as u32) as u8;
-        let order = [
-            next,
-            (next + 1) % WAYS as u8,
-            (next + 2) % WAYS as u8,
-            (next + 3) % WAYS as u8,
-        ];
-        first_asked(&asked, &order)
+        let order = (0..WAYS as u8).map(|step| (next + step) % WAYS as u8);
+        first_asked(&asked, order)
     }
 }

@@ -5,6 +5,7 @@ ghost use Rattle.replacement.specs.Choices.{oldest_lawful};
 
 use crate::candidates::first_asked;
 use crate::rule::{Rule, WAYS, WaySet};
+use std::iter::once;
 
 // What a word of three numbers stays below.
 const THREE_NUMBERS: u32 = 64;
@@ -17,12 +18,7 @@ pub struct LeastRecentlyUsed;
 fn oldest_first(word: u32) -> [u8; WAYS]
     ensures { result ≡ reverse (numbers word) }
 {
-    [
-        (word / 64 % 4) as u8,
-        (word / 16 % 4) as u8,
-        (word / 4 % 4) as u8,
-        (word % 4) as u8,
-    ]
+    [word >> 6, word >> 4, word >> 2, word].map(|rest| (rest % WAYS as u32) as u8)
 }
 
 // The word with a way first, then the first three of its numbers that differ from the way.
@@ -30,13 +26,14 @@ fn renew(word: u32, way: u8) -> u32
     ensures { result ≡ renewed word way }
 {
     let newest = way % WAYS as u8;
-    let mut rest = 0;
-    for number in oldest_first(word) {
-        if number != newest {
-            rest = (u32::from(number) + 4 * rest) % THREE_NUMBERS;
-        }
-    }
-    u32::from(newest) + 4 * rest
+    oldest_first(word)
+        .into_iter()
+        .filter(|number| *number != newest)
+        .chain(once(newest))
+        .fold(
+            0,
+            |rest, number| rest % THREE_NUMBERS * WAYS as u32 + u32::from(number),
+        )
 }
 
 impl Rule for LeastRecentlyUsed {
@@ -71,7 +68,7 @@ impl Rule for LeastRecentlyUsed {
     }
 
     fn choose(&self, word: u32, asked: WaySet) -> u8 {
-        let [a, b, c, d] = oldest_first(word);
-        first_asked(&asked, &[a, b, c, d, 0, 1, 2, 3])
+        let order = oldest_first(word).into_iter().chain(0..WAYS as u8);
+        first_asked(&asked, order)
     }
 }

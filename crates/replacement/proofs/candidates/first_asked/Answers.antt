@@ -1,22 +1,10 @@
-use Rattle.std.proofs.Common.{sym, ◌∙◌}
-use Rattle.std.proofs.lemmas.List.{at_drop_more, at_drop_all}
-use Rattle.std.proofs.lemmas.Bool.{cond-true, cond-false}
-use Rattle.replacement.specs.Asked.{first_asked}
+use Rattle.std.proofs.Common.{false, get_or, unwrap_or, sym, ap, ◌∙◌, rules}
+use borrow.Author.Tests.{tests}
+use Rattle.std.proofs.lemmas.Iterator.Adapters.{option_map_id}
+use Rattle.std.proofs.lemmas.Iterator.Search.{find_from_yields_List}
 use Rattle.replacement.proofs.candidates.first_asked.Goals as goal
 
-pub returns-then-is_asked : goal.returns-then-is_asked
-returns-then-is_asked c =
-    sym (cond-true _ _ _ (sym c.if-is_asked.ensures))
-    ∙ sym (at_drop_more (first_asked c.args.asked.now) c.args.order.now c.loop-candidate.candidate-index 0 c.loop-candidate-test.true)
-    ∙ c.loop-candidate.invariant
-
-pub loop-candidate-preserved : goal.loop-candidate-preserved
-loop-candidate-preserved c =
-    sym (cond-false _ _ _ (sym c.if-is_asked.ensures))
-    ∙ sym (at_drop_more (first_asked c.args.asked.now) c.args.order.now c.loop-candidate.candidate-index 0 c.loop-candidate-test.true)
-    ∙ c.loop-candidate.invariant
-
 pub returns : goal.returns
-returns c =
-    sym (at_drop_all (first_asked c.args.asked.now) c.args.order.now c.loop-candidate.candidate-index c.loop-candidate-test.false)
-    ∙ c.loop-candidate.invariant
+returns g c = λ ways y.
+    c.unwrap_or.ensures
+    ∙ ap (λ o. unwrap_or o 0) (sym (option_map_id _) ∙ find_from_yields_List (λ way. get_or c.args.asked.now way false) _ _ c.find.result c.find.ensures.ran y (λ x b q k. search (rules, tests)))
