@@ -1,9 +1,9 @@
 -- Numbers in hexadecimal digits of a fixed width.
-use Rattle.std.specs.Prelude.{ℕ, zero, suc, ◌+◌, ◌/◌, ◌%◌, ◌^◌, cond, List, [], ◌∷◌, ◌++◌, nat_lt}
+use Rattle.std.specs.Prelude.{ℕ, zero, suc, ◌+◌, ◌/◌, ◌%◌, ◌^◌, if◌then◌else◌, List, [], ◌∷◌, ◌++◌, nat_lt}
 
 -- the upper-case hexadecimal digit of a number below 16
 abbrev pub digit_of : ℕ → ℕ
-digit_of n = cond (nat_lt n 10) (48 + n) (55 + n)
+digit_of n = if nat_lt n 10 then 48 + n else 55 + n
 
 -- the last w hexadecimal digits of n
 abbrev pub hex : ℕ → ℕ → List ℕ

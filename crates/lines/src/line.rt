@@ -1,7 +1,7 @@
-ghost use Rattle.std.specs.Prelude.{◌≡◌, ℕ, ◌+◌, ◌<◌, ◌≤◌, ◌++◌, length, take, drop};
+ghost use Rattle.std.specs.Prelude.{◌≡◌, ◌-◌, ◌<◌, ◌≤◌, length};
 ghost use Rattle.lines.specs.Hex.{digit_of, hex_field};
 ghost use Rattle.lines.specs.Levels.{level_number};
-ghost use Rattle.lines.specs.Lines.{Written, line_bytes, line_length};
+ghost use Rattle.lines.specs.Lines.{Written, line_bytes};
 
 use records::fault::FormatFault;
 
@@ -11,11 +11,11 @@ pub const LINE_BYTES: usize = 41;
 // Where a reference found its word.
 #[derive(Clone, Copy, Debug, PartialEq, Eq)]
 pub enum Level {
-    VHit,
-    RHit,
-    Synonym,
-    Miss,
-    NoReference,
+    VHit = 0,
+    RHit = 1,
+    Synonym = 2,
+    Miss = 3,
+    NoReference = 4,
 }
 
 // What one line of a listing shows of a record.
@@ -33,13 +33,7 @@ impl Level {
     pub fn number(self) -> u8
         ensures { result ≡ level_number self }
     {
-        match self {
-            Level::VHit => 0,
-            Level::RHit => 1,
-            Level::Synonym => 2,
-            Level::Miss => 3,
-            Level::NoReference => 4,
-        }
+        self as u8
     }
 }
 
@@ -48,86 +42,52 @@ fn digit(n: u32) -> u8
     requires { n < 16 }
     ensures { result ≡ digit_of n }
 {
-    if n < 10 {
-        b'0' + n as u8
-    } else {
-        b'A' + (n as u8 - 10)
+    b"0123456789ABCDEF"[n as usize]
+}
+
+// Fills a field with the last digits of a number and the byte after them.
+fn fill(field: &mut [u8], n: u32, end: u8)
+    requires some { 0 < length field.old }
+    requires digits { length field.old ≤ 9 }
+    ensures { field.new ≡ hex_field (length field.old - 1) n end }
+{
+    let last = field.len() - 1;
+    for (at, byte) in field.iter_mut().enumerate() {
+        *byte = if at < last {
+            digit(n >> (4 * (last - 1 - at)) & 0xF)
+        } else {
+            end
+        };
     }
 }
 
-// Eight digits and the byte after them.
-fn word_field(n: u32, end: u8) -> [u8; 9]
-    ensures { result ≡ hex_field 8 n end }
+// The bytes of one line.
+// Not by `write!`: the bytes are of a fixed number, and a formatter's writes can fail.
+pub fn line_bytes(line: Line) -> [u8; LINE_BYTES]
+    ensures { result ≡ line_bytes line }
 {
-    [
-        digit(n / 0x1000_0000 % 16),
-        digit(n / 0x100_0000 % 16),
-        digit(n / 0x10_0000 % 16),
-        digit(n / 0x1_0000 % 16),
-        digit(n / 0x1000 % 16),
-        digit(n / 0x100 % 16),
-        digit(n / 0x10 % 16),
-        digit(n % 16),
-        end,
-    ]
-}
-
-// Two digits and the byte after them.
-fn byte_field(n: u8, end: u8) -> [u8; 3]
-    ensures { result ≡ hex_field 2 n end }
-{
-    let n = n as u32;
-    [digit(n / 16 % 16), digit(n % 16), end]
-}
-
-// One digit and the byte after it.
-fn level_field(level: Level, end: u8) -> [u8; 2]
-    ensures { result ≡ hex_field 1 (level_number level) end }
-{
-    [digit(level.number() as u32 % 16), end]
-}
-
-// Writes `bytes` at `at`.
-fn put(out: &mut [u8], at: usize, bytes: &[u8])
-    requires { at + length bytes.now ≤ length out.old }
-    ensures front { take (at + length bytes.now) out.new ≡ take at out.old ++ bytes.now }
-    ensures back { (k : ℕ) → at + length bytes.now ≤ k → drop k out.new ≡ drop k out.old }
-{
-    let end = at + bytes.len();
-    out[at..end].copy_from_slice(bytes);
-}
-
-// Writes one line to the front of `out`.
-fn fill(line: Line, out: &mut [u8])
-    requires { line_length ≤ length out.old }
-    ensures { out.new ≡ line_bytes line ++ drop line_length out.old }
-{
-    put(out, 0, &word_field(line.record, b' '));
-    put(out, 9, &byte_field(line.status, b' '));
-    put(out, 12, &level_field(line.level, b' '));
-    put(out, 14, &word_field(line.word, b' '));
-    put(out, 23, &word_field(line.messages[0], b' '));
-    put(out, 32, &word_field(line.messages[1], b'\n'));
+    let mut out = [0; LINE_BYTES];
+    let (record, rest) = out.split_at_mut(9);
+    let (status, rest) = rest.split_at_mut(3);
+    let (level, rest) = rest.split_at_mut(2);
+    let (word, rest) = rest.split_at_mut(9);
+    let (first, second) = rest.split_at_mut(9);
+    fill(record, line.record, b' ');
+    fill(status, u32::from(line.status), b' ');
+    fill(level, u32::from(line.level.number()), b' ');
+    fill(word, line.word, b' ');
+    fill(first, line.messages[0], b' ');
+    fill(second, line.messages[1], b'\n');
+    out
 }
 
 // Writes one line to the front of `out`, or refuses where it does not fit.
 pub fn write_line(line: Line, out: &mut [u8]) -> Result<(), FormatFault>
     ensures { Written line out.old out.new result }
 {
-    if out.len() < LINE_BYTES {
-        return Err(FormatFault::ShortBuffer {
-            record: line.record,
-        });
-    }
-    fill(line, out);
+    let front = out.first_chunk_mut().ok_or(FormatFault::ShortBuffer {
+        record: line.record,
+    })?;
+    *front = line_bytes(line);
     Ok(())
-}
-
-// The bytes of one line.
-pub fn line_bytes(line: Line) -> [u8; LINE_BYTES]
-    ensures { result ≡ line_bytes line }
-{
-    let mut out = [0; LINE_BYTES];
-    fill(line, &mut out);
-    out
 }
