@@ -1,57 +1,53 @@
--- Steps of the loops over pages and rows.
-use Rattle.std.proofs.Common.{◌≡◌, ℕ, ◌+◌, ◌*◌, ◌/◌, ◌%◌, ◌<◌, ◌≤◌, Bool, true, false, cond, eqb, List, [], ◌∷◌, ◌++◌, length, drop, Some, None, Option, Result, sym, refl, ap, ◌∙◌, add-one, arith}
-use Rattle.std.proofs.lemmas.List.{append_assoc, append-nil, drop_all}
+-- Steps of the loops over processes and pages.
+use Rattle.std.proofs.Common.{◌≡◌, ℕ, zero, suc, ◌+◌, ◌<◌, ◌≤◌, true, List, [], ◌∷◌, ◌++◌, Some, None, Ok, Err, Option, Result, sym, refl, ap, ◌∙◌, append_assoc, add-one, arith}
+use Rattle.std.proofs.lemmas.List.{append-nil}
 use Rattle.std.proofs.lemmas.Bool.{cond-true}
 use Rattle.std.proofs.lemmas.Bool.Decides.{nat_tests}
+use Rattle.std.specs.List.{flat_map, range_with_len}
 use Rattle.base.specs.Sizes.{pages, processes}
 use Rattle.base.specs.declared.block.Frame.{Frame}
-use Rattle.base.specs.declared.block.Page.{Page}
-use Rattle.base.specs.declared.block.Process.{Process}
 use Rattle.paging.specs.Frames.{Frames, found, looked, named}
 use Rattle.paging.specs.declared.fault.MapFault.{MapFault}
-use Rattle.trace_map.specs.Pages.{answered, mapped, row_at, row_of, rows_below, sharing}
+use Rattle.trace_map.specs.Pages.{mapped, row_of, rows_of}
 use Rattle.trace_map.specs.declared.pages.MappedPage.{MappedPage}
 
-answered_found : (p : Process) (g : Page) (o : Option ℕ) → answered p g (found o g) ≡ row_of p.0 g.0 o
+flat_from : {X : Type 0} (f : ℕ → List X) (a n k : ℕ) → k ≡ a + n → flat_map f (range_with_len a (suc n)) ≡ flat_map f (range_with_len a n) ++ f k
+flat_from f a zero k e = grind (arith, append-nil)
+flat_from f a (suc n) k e = ap (λ z. f a ++ z) (flat_from f (a + 1) n k (omega arith)) ∙ sym (append_assoc (f a) (flat_map f (range_with_len (a + 1) n)) (f k))
+
+-- one number more
+flat_more : {X : Type 0} (f : ℕ → List X) (n : ℕ) → flat_map f (range_with_len 0 (n + 1)) ≡ flat_map f (range_with_len 0 n) ++ f n
+flat_more f n = rw add-one (flat_from f 0 n n (omega arith))
+
+-- the row of what a look-up answered
+abbrev pub answered : ℕ → ℕ → Result Frame MapFault → List MappedPage
+answered p g (Ok f) = record { process = record { 0 = p }; page = record { 0 = g }; frame = f } ∷ []
+answered p g (Err e) = []
+
+answered_found : (p g : ℕ) (o : Option ℕ) → answered p g (found o (record { 0 = g })) ≡ row_of p g o
 answered_found p g None = refl
 answered_found p g (Some f) = refl
 
-looked_named : (m : Frames) (p : Process) (g : Page) → named p.0 g.0 ≡ true → looked m p g ≡ found (m p.0 g.0) g
-looked_named m p g n = cond-true _ (found (m p.0 g.0) g) _ n
+looked_row : (m : Frames) (p g : ℕ) → p < processes → g < pages → answered p g (looked m (record { 0 = p }) (record { 0 = g })) ≡ row_of p g (m p g)
+looked_row m p g h i =
+    let n : named p g ≡ true = grind (arith, nat_tests) in
+    ap (answered p g) (cond-true _ (found (m p g) (record { 0 = g })) _ n) ∙ answered_found p g (m p g)
 
-in_ranges : (n : ℕ) → n < processes * pages → named (n / pages) (n % pages) ≡ true
-in_ranges n h = grind (arith, nat_tests)
+-- one page more
+pub page_more : (m m' : Frames) (p g : ℕ) (a : Result Frame MapFault) (front xs ys : List MappedPage) → p < processes → g < pages → m' ≡ m
+    → a ≡ looked m' (record { 0 = p }) (record { 0 = g }) → ys ≡ xs ++ answered p g a
+    → xs ≡ front ++ flat_map (λ n. row_of p n (m p n)) (range_with_len 0 g) → ys ≡ front ++ flat_map (λ n. row_of p n (m p n)) (range_with_len 0 (g + 1))
+page_more m m' p g a front xs ys h i q e k inv =
+    let f : ℕ → List MappedPage = λ n. row_of p n (m p n) in
+    let r : answered p g a ≡ f g = ap (answered p g) (e ∙ ap (λ (n : Frames). looked n (record { 0 = p }) (record { 0 = g })) q) ∙ looked_row m p g h i in
+    rw (k, r, inv, flat_more f g, append_assoc) refl
 
-pub rows_more : (m m' : Frames) (n : ℕ) (a : Result Frame MapFault) (xs ys : List MappedPage) → n < processes * pages → m' ≡ m
-    → a ≡ looked m' (record { 0 = n / pages }) (record { 0 = n % pages }) → xs ≡ rows_below m n
-    → ys ≡ xs ++ answered (record { 0 = n / pages }) (record { 0 = n % pages }) a → ys ≡ rows_below m (n + 1)
-rows_more m m' n a xs ys h q e i k =
-    let p : Process = record { 0 = n / pages } in
-    let g : Page = record { 0 = n % pages } in
-    let r : answered p g a ≡ row_at m n =
-    ap (answered p g) (e ∙ ap (λ (f : Frames). looked f p g) q ∙ looked_named m p g (in_ranges n h)) ∙ answered_found p g (m p.0 g.0) in
-    let s : rows_below m (n + 1) ≡ rows_below m n ++ row_at m n = ap (rows_below m) (add-one n) in
-    k ∙ ap (λ (z : List MappedPage). z ++ answered p g a) i ∙ ap (λ (z : List MappedPage). rows_below m n ++ z) r ∙ sym s
+-- one process more
+pub process_more : (m : Frames) (p g : ℕ) (xs : List MappedPage) → pages ≤ g → g ≤ pages
+    → xs ≡ flat_map (rows_of m) (range_with_len 0 p) ++ flat_map (λ n. row_of p n (m p n)) (range_with_len 0 g) → xs ≡ flat_map (rows_of m) (range_with_len 0 (p + 1))
+process_more m p g xs a b inv =
+    let d : g ≡ pages = omega arith in
+    inv ∙ ap (λ k. flat_map (rows_of m) (range_with_len 0 p) ++ flat_map (λ n. row_of p n (m p n)) (range_with_len 0 k)) d ∙ sym (flat_more (rows_of m) p)
 
-pub rows_all : (m : Frames) (n : ℕ) (xs : List MappedPage) → processes * pages ≤ n → n ≤ processes * pages → xs ≡ rows_below m n → xs ≡ mapped m
-rows_all m n xs a b e = let d : n ≡ processes * pages = omega arith in e ∙ ap (rows_below m) d
-
-module _ (f : Frame) where
-  one_by : (r : MappedPage) (rs : List MappedPage) (b : Bool) → cond b (r ∷ sharing f rs) (sharing f rs) ≡ cond b (r ∷ []) [] ++ sharing f rs
-  one_by r rs true = refl
-  one_by r rs false = refl
-
-  one : (r : MappedPage) (rs : List MappedPage) → sharing f (r ∷ rs) ≡ sharing f (r ∷ []) ++ sharing f rs
-  one r rs = one_by r rs (eqb r.frame.0 f.0)
-
-  -- one row more
-  pub sharing_more : (rs out out' all : List MappedPage) (i : ℕ) (r : MappedPage) → drop i rs ≡ r ∷ drop (i + 1) rs
-      → out' ≡ out ++ sharing f (r ∷ []) → out ++ sharing f (drop i rs) ≡ all → out' ++ sharing f (drop (i + 1) rs) ≡ all
-  sharing_more rs out out' all i r d k inv =
-      let s : sharing f (drop i rs) ≡ sharing f (r ∷ []) ++ sharing f (drop (i + 1) rs) = ap (sharing f) d ∙ one r (drop (i + 1) rs) in
-      ap (λ (z : List MappedPage). z ++ sharing f (drop (i + 1) rs)) k ∙ append_assoc out (sharing f (r ∷ [])) (sharing f (drop (i + 1) rs)) ∙ sym (ap (λ (z : List MappedPage). out ++ z) s) ∙ inv
-
-  pub sharing_all : (rs out all : List MappedPage) (i : ℕ) → length rs ≤ i → out ++ sharing f (drop i rs) ≡ all → out ≡ all
-  sharing_all rs out all i h inv =
-      let d : sharing f (drop i rs) ≡ [] = ap (sharing f) (drop_all i rs h) in
-      sym (append-nil out) ∙ ap (λ (z : List MappedPage). out ++ z) (sym d) ∙ inv
+pub rows_all : (m : Frames) (p : ℕ) (xs : List MappedPage) → processes ≤ p → p ≤ processes → xs ≡ flat_map (rows_of m) (range_with_len 0 p) → xs ≡ mapped m
+rows_all m p xs a b e = let d : p ≡ processes = omega arith in e ∙ ap (λ k. flat_map (rows_of m) (range_with_len 0 k)) d

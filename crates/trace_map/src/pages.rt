@@ -1,9 +1,8 @@
-ghost use Rattle.std.specs.Prelude.{◌≡◌, [], ◌∷◌, ◌++◌, IfOk, OnOk};
-ghost use Rattle.trace_map.specs.Pages.{answered, mapped, sharing};
+ghost use Rattle.std.specs.Prelude.{◌≡◌, IfOk};
+ghost use Rattle.trace_map.specs.Pages.{mapped, sharing};
 
 use base::block::{Frame, Page, Process};
 use base::size::{PAGES, PROCESSES};
-use paging::fault::MapFault;
 use paging::map::Map;
 use std::alloc::{AllocError, Global};
 
@@ -15,25 +14,6 @@ pub struct MappedPage {
     pub frame: Frame,
 }
 
-// One more row, where the look-up of a page answered a frame.
-fn add_row(
-    rows: &mut Vec<MappedPage>,
-    process: Process,
-    page: Page,
-    answer: Result<Frame, MapFault>,
-) -> Result<(), AllocError>
-    ensures { OnOk result (rows.new.items ≡ rows.old.items ++ answered process page answer) }
-{
-    if let Ok(frame) = answer {
-        rows.push(MappedPage {
-            process,
-            page,
-            frame,
-        })?;
-    }
-    Ok(())
-}
-
 // All mapped pages, in the order of processes and pages, by look-up alone.
 pub fn mapped_pages<M: Map>(heap: Global, map: &mut M) -> Result<Vec<MappedPage>, AllocError>
     ensures kept { M.Map.sound map.old → M.Map.sound map.new }
@@ -41,22 +21,19 @@ pub fn mapped_pages<M: Map>(heap: Global, map: &mut M) -> Result<Vec<MappedPage>
     ensures rows { M.Map.sound map.old → IfOk result (λ v. v.items ≡ mapped (M.Map.frame map.old)) }
 {
     let mut rows = Vec::new(heap);
-    for number in 0..u16::from(PROCESSES) * PAGES {
-        let process = Process((number / PAGES) as u8);
-        let page = Page(number % PAGES);
-        add_row(&mut rows, process, page, map.frame_of(process, page))?;
+    for p in 0..PROCESSES {
+        for g in 0..PAGES {
+            let (process, page) = (Process(p), Page(g));
+            if let Ok(frame) = map.frame_of(process, page) {
+                rows.push(MappedPage {
+                    process,
+                    page,
+                    frame,
+                })?;
+            }
+        }
     }
     Ok(rows)
-}
-
-// One more row, where it is of the frame.
-fn add_if_of(rows: &mut Vec<MappedPage>, row: MappedPage, frame: Frame) -> Result<(), AllocError>
-    ensures { OnOk result (rows.new.items ≡ rows.old.items ++ sharing frame (row ∷ [])) }
-{
-    if row.frame.0 == frame.0 {
-        rows.push(row)?;
-    }
-    Ok(())
 }
 
 // The rows of one frame, in their order.
@@ -67,9 +44,8 @@ pub fn sharers(
 ) -> Result<Vec<MappedPage>, AllocError>
     ensures { IfOk result (λ v. v.items ≡ sharing frame rows.now) }
 {
-    let mut found = Vec::new(heap);
-    for row in rows {
-        add_if_of(&mut found, *row, frame)?;
-    }
-    Ok(found)
+    rows.iter()
+        .copied()
+        .filter(|row| row.frame == frame)
+        .collect(heap)
 }

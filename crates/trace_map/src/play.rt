@@ -1,43 +1,27 @@
-ghost use Rattle.std.specs.Prelude.{◌≡◌};
-ghost use Rattle.trace_map.specs.Played.{count_of, is_of, played, played_all};
+ghost use Rattle.std.specs.Prelude.{◌≡◌, count_by};
+ghost use Rattle.trace_map.specs.Played.{is_enter, is_erase, played, played_all};
 
 use paging::map::ChangeableMap;
 use records::record::Record;
 
-// The records that change a map.
-#[derive(Clone, Copy, Debug, PartialEq, Eq)]
-pub enum Change {
-    Entering,
-    Erasing,
+// How many of the records are enters.
+pub fn enters(records: &[Record]) -> usize
+    ensures { result ≡ count_by is_enter records.now }
+{
+    records
+        .iter()
+        .filter(|next| matches!(next, Record::Enter { .. }))
+        .count()
 }
 
-fn is_of(change: Change, next: Record) -> bool
-    ensures { result ≡ is_of change next }
+// How many of the records are erases.
+pub fn erases(records: &[Record]) -> usize
+    ensures { result ≡ count_by is_erase records.now }
 {
-    match next {
-        Record::Enter { .. } => match change {
-            Change::Entering => true,
-            Change::Erasing => false,
-        },
-        Record::Erase { .. } => match change {
-            Change::Entering => false,
-            Change::Erasing => true,
-        },
-        _ => false,
-    }
-}
-
-// How many of the records make one kind of change.
-pub fn count_of(change: Change, records: &[Record]) -> usize
-    ensures { result ≡ count_of change records.now }
-{
-    let mut count = 0;
-    for next in records {
-        if is_of(change, *next) {
-            count += 1;
-        }
-    }
-    count
+    records
+        .iter()
+        .filter(|next| matches!(next, Record::Erase { .. }))
+        .count()
 }
 
 // One record played on a map. The fields of a decoded record are in their ranges, so the map does not refuse it.

@@ -1,7 +1,7 @@
 ghost use Rattle.records.specs.Traces.{trace_of};
 ghost use Rattle.trace_map.specs.Traced.{Counted, Maps};
 
-use crate::play::{Change, count_of, play_all};
+use crate::play::{enters, erases, play_all};
 use paging::buffer::TranslationBuffer;
 use paging::table::FlatTable;
 use records::record::Record;
@@ -28,8 +28,8 @@ fn counts_of(records: &[Record]) -> Counts
 {
     Counts {
         records: records.len(),
-        enters: count_of(Change::Entering, records),
-        erases: count_of(Change::Erasing, records),
+        enters: enters(records),
+        erases: erases(records),
     }
 }
 
