@@ -1,7 +1,6 @@
 pub mod First
-pub mod Search
 pub mod InRange
-pub mod Masks
-pub mod Snoops
 pub mod Maps
+pub mod Modulo
+pub mod Snoops
 pub mod Ways

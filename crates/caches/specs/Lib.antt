@@ -3,3 +3,4 @@ pub mod Ranged
 pub mod Supply
 pub mod Choice
 pub mod Filled
+pub mod Swapped

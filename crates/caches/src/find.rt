@@ -5,18 +5,13 @@ ghost use Rattle.rules.specs.Cache.{hits, holds, r_find, v_find};
 ghost use Rattle.rules.specs.Sizes.{r_ways, v_ways};
 
 use base::block::{PhysicalBlock, VirtualBlock};
-use tables::types::{
-    EntryState, LineState, Processor, R_SETS, R_WAYS, REntry, V_SETS, V_WAYS, VLine,
-};
+use tables::types::{EntryState, LineState, Processor, R_SETS, REntry, V_SETS, VLine};
 
 // A valid line with the tag.
 pub fn is_hit(line: &VLine, tag: VirtualBlock) -> bool
     ensures { result ≡ hits tag.0 line.now }
 {
-    match line.state {
-        LineState::Valid => line.tag == tag,
-        LineState::Empty | LineState::Swapped => false,
-    }
+    line.state == LineState::Valid && line.tag == tag
 }
 
 // The way of the line that a virtual block hits.
@@ -24,23 +19,16 @@ pub fn find_line(p: &Processor, block: VirtualBlock) -> Option<usize>
     ensures way { result ≡ v_find p.now block.0 }
     ensures within { FoundBelow v_ways result }
 {
-    let set = usize::from(block) % V_SETS;
-    for way in 0..V_WAYS {
-        if is_hit(&p.v[set][way], block) {
-            return Some(way);
-        }
-    }
-    None
+    p.v[usize::from(block) % V_SETS]
+        .iter()
+        .position(|line| is_hit(line, block))
 }
 
 // An entry that is there and holds the block.
 pub fn is_holder(entry: &REntry, block: PhysicalBlock) -> bool
     ensures { result ≡ holds block.0 entry.now }
 {
-    match entry.state {
-        EntryState::Absent => false,
-        EntryState::Private | EntryState::Shared => entry.block == block,
-    }
+    entry.state != EntryState::Absent && entry.block == block
 }
 
 // The way of the entry that holds a block.
@@ -48,11 +36,7 @@ pub fn find_entry(p: &Processor, block: PhysicalBlock) -> Option<usize>
     ensures way { result ≡ r_find p.now block.0 }
     ensures within { FoundBelow r_ways result }
 {
-    let set = usize::from(block) % R_SETS;
-    for way in 0..R_WAYS {
-        if is_holder(&p.r[set][way], block) {
-            return Some(way);
-        }
-    }
-    None
+    p.r[usize::from(block) % R_SETS]
+        .iter()
+        .position(|entry| is_holder(entry, block))
 }

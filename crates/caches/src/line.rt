@@ -1,44 +1,40 @@
 // Lines of the V-cache freed, moved, filled and written.
-ghost use Rattle.std.specs.Prelude.{◌≡◌, ℕ, ◌<◌};
+ghost use Rattle.std.specs.Prelude.{◌≡◌, ℕ, ◌<◌, true, false};
 ghost use Rattle.base.specs.Sizes.{block_words};
 ghost use Rattle.caches.specs.Filled.{line_of};
 ghost use Rattle.caches.specs.Ranged.{ChildIn, Ranged};
-ghost use Rattle.rules.specs.Cache.{filled, free_child, free_line, line_at, marked_dirty, moved, put_line, retagged, stored, unlinked, vdirty_of};
+ghost use Rattle.rules.specs.Bus.{clean_child};
+ghost use Rattle.rules.specs.Cache.{entry_at, filled, free_child, free_line, line_at, marked_dirty, moved, put_entry, put_line, retagged, stored, unlinked, vdirty_of, with_child};
 ghost use Rattle.rules.specs.Invariant.{Filled};
 ghost use Rattle.rules.specs.Sizes.{r_sets, r_ways, v_sets, v_ways};
 
 use crate::blank::no_line;
+use crate::cell::{entry_at, line_at, put_entry, put_line};
 use base::block::VirtualBlock;
 use base::size::BLOCK_WORDS;
-use tables::types::{
-    Child, LineState, Place, Processor, R_SETS, R_WAYS, REntry, V_SETS, V_WAYS, VLine,
-};
+use tables::types::{Child, LineState, Place, Processor, REntry, VLine};
 
 // An entry without its child, whose words it takes where they are newer.
-fn unlink(mut entry: REntry, line: &VLine) -> REntry
+fn unlink(entry: REntry, line: &VLine) -> REntry
     ensures { result ≡ unlinked entry line.now }
 {
-    if line.dirty {
-        let words = line.words;
-        entry.words = words;
-        entry.rdirty = true;
+    REntry {
+        words: if line.dirty { line.words } else { entry.words },
+        rdirty: line.dirty || entry.rdirty,
+        child: Child::NoChild,
+        ..entry
     }
-    entry.child = Child::NoChild;
-    entry
 }
 
 // A line is emptied, and its dirty words go to its entry.
-pub fn free_line(p: &mut Processor, set: usize, way: usize)
-    ensures { Ranged p.old → set < v_sets → way < v_ways → p.new ≡ free_line p.old set way }
+pub fn free_line(p: &mut Processor, at: Place)
+    ensures { Ranged p.old → at.set < v_sets → at.way < v_ways → p.new ≡ free_line p.old at.set at.way }
 {
-    let line = p.v[set % V_SETS][way % V_WAYS];
-    match line.state {
-        LineState::Empty => {}
-        LineState::Valid | LineState::Swapped => {
-            let entry = p.r[line.rplace.set % R_SETS][line.rplace.way % R_WAYS];
-            p.r[line.rplace.set % R_SETS][line.rplace.way % R_WAYS] = unlink(entry, &line);
-            p.v[set % V_SETS][way % V_WAYS] = no_line();
-        }
+    let line = line_at(p, at);
+    if line.state != LineState::Empty {
+        let entry = entry_at(p, line.rplace);
+        put_entry(p, line.rplace, unlink(entry, &line));
+        put_line(p, at, no_line());
     }
 }
 
@@ -47,50 +43,53 @@ pub fn free_child(p: &mut Processor, child: Child)
     ensures { Ranged p.old → ChildIn child → p.new ≡ free_child p.old child }
 {
     if let Child::At { place, .. } = child {
-        free_line(p, place.set, place.way);
+        free_line(p, place);
     }
 }
 
 // A line valid under another tag.
-fn valid_under(mut line: VLine, tag: VirtualBlock) -> VLine
+fn valid_under(line: VLine, tag: VirtualBlock) -> VLine
     ensures { result ≡ retagged line tag.0 }
 {
-    line.state = LineState::Valid;
-    line.tag = tag;
-    line
+    VLine {
+        state: LineState::Valid,
+        tag,
+        ..line
+    }
 }
 
 // A line becomes valid under another tag.
-pub fn retag(p: &mut Processor, set: usize, way: usize, tag: VirtualBlock)
-    ensures { set < v_sets → way < v_ways → p.new ≡ put_line p.old set way (retagged (line_at p.old set way) tag.0) }
+pub fn retag(p: &mut Processor, at: Place, tag: VirtualBlock)
+    ensures { at.set < v_sets → at.way < v_ways → p.new ≡ put_line p.old at.set at.way (retagged (line_at p.old at.set at.way) tag.0) }
 {
-    let line = p.v[set % V_SETS][way % V_WAYS];
-    p.v[set % V_SETS][way % V_WAYS] = valid_under(line, tag);
+    let line = line_at(p, at);
+    put_line(p, at, valid_under(line, tag));
 }
 
 // Whether a child is newer than its entry.
 pub(crate) fn is_vdirty(child: Child) -> bool
     ensures { result ≡ vdirty_of child }
 {
-    match child {
-        Child::NoChild => false,
-        Child::At { vdirty, .. } => vdirty,
-    }
+    matches!(child, Child::At { vdirty: true, .. })
+}
+
+// An entry gets another child.
+fn set_child(p: &mut Processor, at: Place, child: Child)
+    ensures { at.set < r_sets → at.way < r_ways → p.new ≡ put_entry p.old at.set at.way (with_child (entry_at p.old at.set at.way) child) }
+{
+    let entry = entry_at(p, at);
+    put_entry(p, at, REntry { child, ..entry });
 }
 
 // A line goes to another place under another tag; its entry is at `rplace`.
 pub fn move_line(p: &mut Processor, from: Place, to: Place, rplace: Place, tag: VirtualBlock)
     ensures { from.set < v_sets → from.way < v_ways → to.set < v_sets → to.way < v_ways → rplace.set < r_sets → rplace.way < r_ways → p.new ≡ moved p.old from.set from.way to.set to.way rplace.set rplace.way tag.0 }
 {
-    let place = Place {
-        set: to.set % V_SETS,
-        way: to.way % V_WAYS,
-    };
-    let line = p.v[from.set % V_SETS][from.way % V_WAYS];
-    p.v[from.set % V_SETS][from.way % V_WAYS] = no_line();
-    p.v[place.set][place.way] = valid_under(line, tag);
-    let vdirty = is_vdirty(p.r[rplace.set % R_SETS][rplace.way % R_WAYS].child);
-    p.r[rplace.set % R_SETS][rplace.way % R_WAYS].child = Child::At { place, vdirty };
+    let line = line_at(p, from);
+    let vdirty = is_vdirty(entry_at(p, rplace).child);
+    put_line(p, from, no_line());
+    put_line(p, to, valid_under(line, tag));
+    set_child(p, rplace, Child::At { place: to, vdirty });
 }
 
 // The line of an entry's block, valid and clean.
@@ -110,42 +109,34 @@ fn line_of(entry: &REntry, rplace: Place, tag: VirtualBlock) -> VLine
 pub fn fill_line(p: &mut Processor, to: Place, rplace: Place, tag: VirtualBlock)
     ensures { to.set < v_sets → to.way < v_ways → rplace.set < r_sets → rplace.way < r_ways → p.new ≡ filled p.old to.set to.way rplace.set rplace.way tag.0 }
 {
-    let place = Place {
-        set: to.set % V_SETS,
-        way: to.way % V_WAYS,
-    };
-    let home = Place {
-        set: rplace.set % R_SETS,
-        way: rplace.way % R_WAYS,
-    };
-    p.v[place.set][place.way] = line_of(&p.r[home.set][home.way], home, tag);
-    p.r[home.set][home.way].child = Child::At {
-        place,
+    let entry = entry_at(p, rplace);
+    put_line(p, to, line_of(&entry, rplace, tag));
+    let child = Child::At {
+        place: to,
         vdirty: false,
     };
+    set_child(p, rplace, child);
 }
 
-// A child that is newer than its entry.
-fn mark_dirty(child: Child) -> Child
-    ensures { result ≡ marked_dirty child }
+// A child, if there is one, that is newer than its entry or is as it.
+pub(crate) fn with_vdirty(child: Child, vdirty: bool) -> Child
+    ensures newer { vdirty ≡ true → result ≡ marked_dirty child }
+    ensures same { vdirty ≡ false → result ≡ clean_child child }
 {
     match child {
         Child::NoChild => Child::NoChild,
-        Child::At { place, .. } => Child::At {
-            place,
-            vdirty: true,
-        },
+        Child::At { place, .. } => Child::At { place, vdirty },
     }
 }
 
 // A word goes into a filled line, which is then dirty.
-pub fn store_word(p: &mut Processor, set: usize, way: usize, word: usize, value: u32)
-    ensures { Ranged p.old → Filled (line_at p.old set way) → set < v_sets → way < v_ways → word < block_words → p.new ≡ stored p.old set way word value }
+pub fn store_word(p: &mut Processor, at: Place, word: usize, value: u32)
+    ensures { Ranged p.old → Filled (line_at p.old at.set at.way) → at.set < v_sets → at.way < v_ways → word < block_words → p.new ≡ stored p.old at.set at.way word value }
 {
-    let mut line = p.v[set % V_SETS][way % V_WAYS];
+    let mut line = line_at(p, at);
     line.words[word % BLOCK_WORDS] = value;
     line.dirty = true;
-    p.v[set % V_SETS][way % V_WAYS] = line;
-    let child = p.r[line.rplace.set % R_SETS][line.rplace.way % R_WAYS].child;
-    p.r[line.rplace.set % R_SETS][line.rplace.way % R_WAYS].child = mark_dirty(child);
+    put_line(p, at, line);
+    let child = entry_at(p, line.rplace).child;
+    set_child(p, line.rplace, with_vdirty(child, true));
 }

@@ -1,35 +1,44 @@
 // Lines swapped out: at a switch all of them, at a change of the map those of one page.
 ghost use Rattle.std.specs.Prelude.{◌≡◌, ℕ, List, map};
-ghost use Rattle.rules.specs.Cache.{swap_all, swap_line};
-ghost use Rattle.rules.specs.Calls.{swap_page, swap_pages};
+ghost use Rattle.caches.specs.Swapped.{of_page, swapped};
+ghost use Rattle.rules.specs.Cache.{swap_all};
+ghost use Rattle.rules.specs.Calls.{swap_pages};
 
 use base::block::{Page, Process};
 use tables::types::{LineState, Processor, V_SETS, V_WAYS, VLine};
 
-// A valid line becomes swapped.
-fn swap_out(line: &mut VLine)
-    ensures { line.new ≡ swap_line line.old }
+// Whether a line is of the page, where one is given.
+#[tactic(auto, unfolding(rules::specs::Sizes::page_blocks))]
+fn is_of(line: &VLine, page: Option<Page>) -> bool
+    ensures { result ≡ of_page page line.now }
 {
-    if let LineState::Valid = line.state {
+    page.is_none_or(|page| line.tag.page() == page)
+}
+
+// A valid line becomes swapped, where it is of the page.
+fn swap_out(line: &mut VLine, page: Option<Page>)
+    ensures { line.new ≡ swapped page line.old }
+{
+    if line.state == LineState::Valid && is_of(line, page) {
         line.state = LineState::Swapped;
     }
 }
 
-// All lines of a set.
-fn swap_set(lines: &mut [VLine; V_WAYS])
-    ensures { lines.new ≡ map swap_line lines.old }
+// The lines of a set.
+fn swap_set(lines: &mut [VLine; V_WAYS], page: Option<Page>)
+    ensures { lines.new ≡ map (swapped page) lines.old }
 {
-    for way in 0..V_WAYS {
-        swap_out(&mut lines[way]);
+    for line in lines.iter_mut() {
+        swap_out(line, page);
     }
 }
 
-// All lines.
-fn swap_sets(sets: &mut [[VLine; V_WAYS]; V_SETS])
-    ensures { sets.new ≡ map (map swap_line) sets.old }
+// The lines of all sets.
+fn swap_sets(sets: &mut [[VLine; V_WAYS]; V_SETS], page: Option<Page>)
+    ensures { sets.new ≡ map (map (swapped page)) sets.old }
 {
-    for set in 0..V_SETS {
-        swap_set(&mut sets[set]);
+    for lines in sets.iter_mut() {
+        swap_set(lines, page);
     }
 }
 
@@ -37,42 +46,15 @@ fn swap_sets(sets: &mut [[VLine; V_WAYS]; V_SETS])
 pub fn swap_lines(p: &mut Processor, process: Process)
     ensures { p.new ≡ swap_all p.old process.0 }
 {
-    swap_sets(&mut p.v);
+    swap_sets(&mut p.v, None);
     p.process = process;
-}
-
-// A line of the page, where it is valid, becomes swapped.
-fn swap_out_of(line: &mut VLine, page: Page)
-    ensures { line.new ≡ swap_page page.0 line.old }
-{
-    if line.tag.page().0 == page.0 {
-        swap_out(line);
-    }
-}
-
-// The lines of a set that are of the page.
-fn swap_set_of(lines: &mut [VLine; V_WAYS], page: Page)
-    ensures { lines.new ≡ map (swap_page page.0) lines.old }
-{
-    for way in 0..V_WAYS {
-        swap_out_of(&mut lines[way], page);
-    }
-}
-
-// All lines that are of the page.
-fn swap_sets_of(sets: &mut [[VLine; V_WAYS]; V_SETS], page: Page)
-    ensures { sets.new ≡ map (map (swap_page page.0)) sets.old }
-{
-    for set in 0..V_SETS {
-        swap_set_of(&mut sets[set], page);
-    }
 }
 
 // The lines of the page are swapped out, where the processor runs the process.
 pub fn swap_page(p: &mut Processor, process: Process, page: Page)
     ensures { p.new ≡ swap_pages process.0 page.0 p.old }
 {
-    if p.process.0 == process.0 {
-        swap_sets_of(&mut p.v, page);
+    if p.process == process {
+        swap_sets(&mut p.v, Some(page));
     }
 }

@@ -1,4 +1,4 @@
-use Rattle.std.proofs.Common.{◌≡◌, ◌%◌, Bool, ltb, List, [], ◌∷◌, ap, ◌∙◌}
+use Rattle.std.proofs.Common.{◌%◌, Bool, ltb, List, ap, ◌∙◌}
 use Rattle.replacement.specs.Sizes.{ways}
 use Rattle.rules.specs.Basic.{both, flags}
 use Rattle.rules.specs.Cache.{childless, entry_at}
@@ -10,9 +10,7 @@ pub returns-in-Some : goal.returns-in-Some
 unfolding r_sets r_ways
 returns-in-Some c =
     let free : List Bool = flags ways (λ w. both (ltb w r_ways) (childless (entry_at c.args.p.now (c.args.set % r_sets) w))) in
-    let row : c.is_childless.result ∷ c.is_childless-in-Some.result ∷ c.is_childless-in-Some-2.result ∷ c.is_childless-in-Some-3.result ∷ [] ≡ free =
-    λ j. c.is_childless.ensures j ∷ c.is_childless-in-Some.ensures j ∷ c.is_childless-in-Some-2.ensures j ∷ c.is_childless-in-Some-3.ensures j ∷ [] in
-    row ∙ ap (asked_by free) c.in-Some.ensures
+    c.childless_ways.ensures ∙ ap (asked_by free) c.in-Some.ensures
 
 pub returns-in-None : goal.returns-in-None
 unfolding r_sets r_ways

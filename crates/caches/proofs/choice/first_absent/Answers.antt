@@ -1,27 +1,20 @@
-use Rattle.std.proofs.Common.{◌≡◌, ◌%◌, sym, ap, ◌∙◌, arith}
-use Rattle.rules.specs.Basic.{first_below}
-use Rattle.rules.specs.Cache.{entry_at, is_absent}
+use Rattle.std.proofs.Common.{◌≡◌, ◌%◌, Bool, List, [], get_or, length, rules, tests}
+use Rattle.std.specs.List.{position}
+use Rattle.std.proofs.lemmas.Iterator.{YieldsList-from_slice}
+use Rattle.std.proofs.lemmas.Iterator.Search.{position_from_yields_List}
 use Rattle.rules.specs.Sizes.{r_sets, r_ways}
-use Rattle.caches.proofs.First.{first_more, first_found}
+use Rattle.rules.specs.Cache.{is_absent, past_entry}
+use Rattle.tables.specs.declared.types.REntry.{REntry}
+use Rattle.caches.proofs.First.{first_in}
 use Rattle.caches.proofs.choice.first_absent.Goals as goal
-
-pub loop-way-preserved : goal.loop-way-preserved
-unfolding r_sets
-loop-way-preserved c = first_more c.loop-way.way (λ k. is_absent (entry_at c.args.p.now (c.args.set % r_sets) k).state) c.loop-way.invariant (sym c.if-is_absent.ensures)
-
-pub returns-then-is_absent : goal.returns-then-is_absent
-unfolding r_sets r_ways
-returns-then-is_absent c =
-    record {
-      way = sym (first_found r_ways (λ k. is_absent (entry_at c.args.p.now (c.args.set % r_sets) k).state) c.loop-way.way c.loop-way-test.true c.loop-way.invariant (sym c.if-is_absent.ensures));
-      within = c.loop-way-test.true;
-    }
 
 pub returns : goal.returns
 unfolding r_sets r_ways
 returns c =
-    let last : c.loop-way.way ≡ r_ways = omega arith in
-    record {
-      way = sym c.loop-way.invariant ∙ ap (λ m. first_below m (λ k. is_absent (entry_at c.args.p.now (c.args.set % r_sets) k).state)) last;
-      within = tt;
-    }
+    let row : List REntry = get_or c.args.p.now.r (c.args.set % r_sets) [] in
+    let n : length row ≡ r_ways = search rules in
+    let test : REntry → Bool = λ l. is_absent l.state in
+    let h : c.position.result ≡ position test row =
+    position_from_yields_List test _ _ c.position.result c.position.ensures.ran (YieldsList-from_slice row cc) (λ x b q k. search (rules, tests)) in
+    let first = first_in r_ways test past_entry row n c.position.result h in
+    record { way = first.way; within = first.within }

@@ -1,21 +1,19 @@
-use Rattle.std.proofs.Common.{◌≡◌, ◌%◌, sym, ap, ◌∙◌, arith}
-use Rattle.rules.specs.Basic.{first_below}
-use Rattle.rules.specs.Cache.{entry_at, childless}
+use Rattle.std.proofs.Common.{◌≡◌, ◌%◌, Bool, List, [], get_or, length, rules, tests}
+use Rattle.std.specs.List.{position}
+use Rattle.std.proofs.lemmas.Iterator.{YieldsList-from_slice}
+use Rattle.std.proofs.lemmas.Iterator.Search.{position_from_yields_List}
 use Rattle.rules.specs.Sizes.{r_sets, r_ways}
-use Rattle.caches.proofs.First.{first_more, first_found}
+use Rattle.rules.specs.Cache.{childless, past_entry}
+use Rattle.tables.specs.declared.types.REntry.{REntry}
+use Rattle.caches.proofs.First.{first_in}
 use Rattle.caches.proofs.choice.first_childless.Goals as goal
-
-pub loop-way-preserved : goal.loop-way-preserved
-unfolding r_sets
-loop-way-preserved c = first_more c.loop-way.way (λ k. childless (entry_at c.args.p.now (c.args.set % r_sets) k)) c.loop-way.invariant (sym c.if-is_childless.ensures)
-
-pub returns-then-is_childless : goal.returns-then-is_childless
-unfolding r_sets r_ways
-returns-then-is_childless c =
-    sym (first_found r_ways (λ k. childless (entry_at c.args.p.now (c.args.set % r_sets) k)) c.loop-way.way c.loop-way-test.true c.loop-way.invariant (sym c.if-is_childless.ensures))
 
 pub returns : goal.returns
 unfolding r_sets r_ways
 returns c =
-    let last : c.loop-way.way ≡ r_ways = omega arith in
-    sym c.loop-way.invariant ∙ ap (λ m. first_below m (λ k. childless (entry_at c.args.p.now (c.args.set % r_sets) k))) last
+    let row : List REntry = get_or c.args.p.now.r (c.args.set % r_sets) [] in
+    let n : length row ≡ r_ways = search rules in
+    let test : REntry → Bool = λ l. childless l in
+    let h : c.position.result ≡ position test row =
+    position_from_yields_List test _ _ c.position.result c.position.ensures.ran (YieldsList-from_slice row cc) (λ x b q k. search (rules, tests)) in
+    (first_in r_ways test past_entry row n c.position.result h).way
