@@ -1,8 +1,14 @@
 -- What a machine's fault tells: number, layer and place.
-use Rattle.std.specs.Prelude.{ℕ}
+use Rattle.std.specs.Prelude.{ℕ, ◌<◌, ◌≤◌}
+use Rattle.std.proofs.Common.{arith}
+use Rattle.base.specs.Faults.{last_number}
 use Rattle.base.specs.declared.layer.Layer.{Layer}
 use Rattle.base.specs.declared.layer.Layer.TheVariants.{Machine}
 use Rattle.memory.specs.Fault as memory
+use Rattle.memory.specs.declared.fault.MemoryFault.{MemoryFault}
+use Rattle.memory.specs.declared.fault.MemoryFault.TheVariants.{Outside}
+use Rattle.paging.specs.declared.fault.MapFault.{MapFault}
+use Rattle.paging.specs.declared.fault.MapFault.TheVariants.{NoFrame, OutOfRange}
 use Rattle.paging.specs.Fault as map
 use Rattle.faults.specs.declared.machine_fault.Caller.{Caller}
 use Rattle.faults.specs.declared.machine_fault.Caller.TheVariants.{Processor, Device, Nobody}
@@ -53,3 +59,30 @@ fault_place NoTenure = caller_number Device
 fault_place (Memory c f) = caller_number c
 fault_place SliceLength = caller_number Device
 fault_place (NoPlace p) = p.0
+
+-- each number is one of the list of refusals
+setup_numbered : (f : SetupFault) → (0 < setup_fault_number f) × (setup_fault_number f ≤ last_number)
+setup_numbered Processors = (omega arith, omega arith)
+setup_numbered MemorySize = (omega arith, omega arith)
+
+map_numbered : (f : MapFault) → (0 < map.fault_number f) × (map.fault_number f ≤ last_number)
+map_numbered (NoFrame g) = (omega arith, omega arith)
+map_numbered (OutOfRange g) = (omega arith, omega arith)
+
+memory_numbered : (f : MemoryFault) → (0 < memory.fault_number f) × (memory.fault_number f ≤ last_number)
+memory_numbered (Outside b) = (omega arith, omega arith)
+
+pub machine_numbered : (f : MachineFault) → (0 < fault_number f) × (fault_number f ≤ last_number)
+machine_numbered (Setup f) = setup_numbered f
+machine_numbered (Full c) = (omega arith, omega arith)
+machine_numbered (NoProcessor p) = (omega arith, omega arith)
+machine_numbered (NoAddress p) = (omega arith, omega arith)
+machine_numbered (Map c f) = map_numbered f
+machine_numbered (BeyondMemory p) = (omega arith, omega arith)
+machine_numbered (BusHeld p) = (omega arith, omega arith)
+machine_numbered (NoProcess p) = (omega arith, omega arith)
+machine_numbered BusTaken = (omega arith, omega arith)
+machine_numbered NoTenure = (omega arith, omega arith)
+machine_numbered (Memory c f) = memory_numbered f
+machine_numbered SliceLength = (omega arith, omega arith)
+machine_numbered (NoPlace p) = (omega arith, omega arith)

@@ -1,7 +1,8 @@
 ghost use Rattle.std.specs.Prelude.{◌≡◌};
 ghost use Rattle.faults.specs.declared.machine_fault.MachineFault.TheVariants.{Map, Memory};
-ghost use Rattle.faults.specs.MachineFaults.{caller_number, fault_layer, fault_number, fault_place, setup_fault_number};
+ghost use Rattle.faults.specs.MachineFaults.{caller_number, fault_layer, fault_number, fault_place, machine_numbered, setup_fault_number};
 
+use base::fault::Fault;
 use base::layer::Layer;
 use memory::fault::MemoryFault;
 use paging::fault::MapFault;
@@ -36,23 +37,20 @@ impl Caller {
     }
 }
 
-// Why a machine cannot be set up.
+// Why a machine cannot be set up. A listing shows the number of the case.
 #[derive(Clone, Copy, Debug, PartialEq, Eq)]
 pub enum SetupFault {
     // There are not one to four processors.
-    Processors,
+    Processors = 1,
     // The memory has no block, or a part of a page.
-    MemorySize,
+    MemorySize = 2,
 }
 
 impl SetupFault {
     pub fn number(self) -> u8
         ensures { result ≡ setup_fault_number self }
     {
-        match self {
-            SetupFault::Processors => 1,
-            SetupFault::MemorySize => 2,
-        }
+        self as u8
     }
 }
 
@@ -87,9 +85,38 @@ pub enum MachineFault {
 }
 
 impl MachineFault {
-    pub fn number(self) -> u8
-        ensures { result ≡ fault_number self }
+    // Who made the call.
+    pub fn caller(self) -> Caller
+        ensures { caller_number result ≡ fault_place self }
     {
+        match self {
+            MachineFault::Setup(_) => Caller::Nobody,
+            MachineFault::Full(caller)
+            | MachineFault::Map { caller, fault: _ }
+            | MachineFault::Memory { caller, fault: _ } => caller,
+            MachineFault::NoProcessor(processor)
+            | MachineFault::NoAddress(processor)
+            | MachineFault::BeyondMemory(processor)
+            | MachineFault::BusHeld(processor)
+            | MachineFault::NoProcess(processor)
+            | MachineFault::NoPlace(processor) => Caller::Processor(processor),
+            MachineFault::BusTaken | MachineFault::NoTenure | MachineFault::SliceLength => {
+                Caller::Device
+            }
+        }
+    }
+}
+
+impl Fault for MachineFault {
+    ghost number_of = { fault_number };
+
+    ghost layer_of = { fault_layer };
+
+    ghost place_of = { fault_place };
+
+    ghost numbered = { machine_numbered };
+
+    fn number(self) -> u8 {
         match self {
             MachineFault::Setup(fault) => fault.number(),
             MachineFault::Full(_) => 3,
@@ -107,37 +134,12 @@ impl MachineFault {
         }
     }
 
-    pub fn layer(self) -> Layer
-        ensures { result ≡ fault_layer self }
-    {
+    fn layer(self) -> Layer {
         Layer::Machine
     }
 
-    // Who made the call.
-    pub fn caller(self) -> Caller
-        ensures { caller_number result ≡ fault_place self }
-    {
-        match self {
-            MachineFault::Setup(_) => Caller::Nobody,
-            MachineFault::Full(caller) => caller,
-            MachineFault::Map { caller, fault: _ } => caller,
-            MachineFault::Memory { caller, fault: _ } => caller,
-            MachineFault::NoProcessor(processor)
-            | MachineFault::NoAddress(processor)
-            | MachineFault::BeyondMemory(processor)
-            | MachineFault::BusHeld(processor)
-            | MachineFault::NoProcess(processor)
-            | MachineFault::NoPlace(processor) => Caller::Processor(processor),
-            MachineFault::BusTaken | MachineFault::NoTenure | MachineFault::SliceLength => {
-                Caller::Device
-            }
-        }
-    }
-
     // Where it came about: the processor as given, 8 for the device, 9 for none.
-    pub fn place(self) -> u32
-        ensures { result ≡ fault_place self }
-    {
+    fn place(self) -> u32 {
         u32::from(self.caller().number())
     }
 }

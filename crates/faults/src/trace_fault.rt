@@ -1,8 +1,9 @@
 ghost use Rattle.std.specs.Prelude.{◌≡◌};
 ghost use Rattle.faults.specs.declared.trace_fault.TraceFault.TheVariants.{Format, Machine};
-ghost use Rattle.faults.specs.TraceFaults.{trace_layer, trace_number, trace_place};
+ghost use Rattle.faults.specs.TraceFaults.{trace_layer, trace_number, trace_numbered, trace_place};
 
 use crate::machine_fault::MachineFault;
+use base::fault::Fault;
 use base::layer::Layer;
 use records::fault::FormatFault;
 use std::fmt;
@@ -15,26 +16,28 @@ pub enum TraceFault {
     Format(FormatFault),
 }
 
-impl TraceFault {
-    pub fn number(self) -> u8
-        ensures { result ≡ trace_number self }
-    {
+impl Fault for TraceFault {
+    ghost number_of = { trace_number };
+
+    ghost layer_of = { trace_layer };
+
+    ghost place_of = { trace_place };
+
+    ghost numbered = { trace_numbered };
+
+    fn number(self) -> u8 {
         match self {
             TraceFault::Machine { record: _, fault } => fault.number(),
             TraceFault::Format(fault) => fault.number(),
         }
     }
 
-    pub fn layer(self) -> Layer
-        ensures { result ≡ trace_layer self }
-    {
+    fn layer(self) -> Layer {
         Layer::Trace
     }
 
     // The record at which it came about.
-    pub fn place(self) -> u32
-        ensures { result ≡ trace_place self }
-    {
+    fn place(self) -> u32 {
         match self {
             TraceFault::Machine { record, fault: _ } => record,
             TraceFault::Format(fault) => fault.place(),
