@@ -1,6 +1,8 @@
 use crate::support::bytes_of;
 use base::block::{Frame, Page, PhysicalBlock, Process};
 use records::decode::decode;
+use records::fault::FormatFault;
+use records::iter::Records;
 use records::record::{ProcessorNumber, Record};
 use records::trace::read_trace;
 use records::words::words_of;
@@ -116,6 +118,20 @@ fn decode_gives_record_and_rest(rt: HostRuntime) -> Result<(), Fail> {
     }
     assert_eq!(rt; rest.len(), 0);
     Ok(())
+}
+
+// Each with its number, and then loose bytes as a record that is cut short, once.
+#[test]
+fn records_come_one_after_another(rt: HostRuntime) {
+    let words = WORDS;
+    let mut records = Records::new(&words, true);
+    for (number, record) in (0..).zip(expected()) {
+        assert_eq!(rt; records.next(), Some(Ok((number, record))));
+    }
+    let fault = FormatFault::CutShort { record: 14 };
+    assert_eq!(rt; records.next(), Some(Err(fault)));
+    assert_eq!(rt; records.next(), None);
+    assert_eq!(rt; records.next(), None);
 }
 
 #[test]

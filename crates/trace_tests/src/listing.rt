@@ -1,3 +1,4 @@
+use base::fault::Fault;
 use base::layer::Layer;
 use lines::line::{Level, Line, line_bytes, write_line};
 use std::test::Fail;
@@ -26,13 +27,11 @@ const LETTERS_TEXT: [u8; 41] = *b"ABCDEF01 1F 4 DEADBEEF FFFFFFFF A0B0C0D0\n";
 fn short_buffer_is_19(rt: HostRuntime) -> Result<(), Fail> {
     for len in 0..41 {
         let mut out = [0x55; 42];
-        match write_line(LETTERS, &mut out[..len]) {
-            Ok(()) => return Err(Fail::new("the line is written")),
-            Err(fault) => {
-                assert_eq!(rt; (fault.number(), fault.place()), (19, 0xABCD_EF01));
-                assert_eq!(rt; fault.layer(), Layer::Trace);
-            }
-        }
+        let Err(fault) = write_line(LETTERS, &mut out[..len]) else {
+            return Err(Fail::new("the line is written"));
+        };
+        assert_eq!(rt; (fault.number(), fault.place()), (19, 0xABCD_EF01));
+        assert_eq!(rt; fault.layer(), Layer::Trace);
         assert_eq!(rt; out, [0x55; 42]);
     }
     Ok(())

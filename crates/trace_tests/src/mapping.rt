@@ -111,13 +111,11 @@ fn sharers_of_frames(rt: HostRuntime) -> Result<(), Fail> {
 
 // Checks that a trace has no map, but this refusal.
 fn unmapped(rt: &impl Abort, heap: Global, bytes: &[u8], refusal: (u8, usize)) -> Result<(), Fail> {
-    match map_of_trace(heap, bytes) {
-        Ok(_) => Err(Fail::new("the trace is accepted")),
-        Err(error) => {
-            assert_eq!(rt; told(rt, error)?, refusal);
-            Ok(())
-        },
-    }
+    let Err(error) = map_of_trace(heap, bytes) else {
+        return Err(Fail::new("the trace is accepted"));
+    };
+    assert_eq!(rt; told(rt, error)?, refusal);
+    Ok(())
 }
 
 #[test]

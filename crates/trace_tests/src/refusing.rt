@@ -1,14 +1,12 @@
 use crate::support::{bytes_of, reads};
+use base::fault::Fault;
 use records::decode::decode;
 use std::test::Fail;
 
 #[test]
 fn over_65536_bytes_is_15(rt: HostRuntime) -> Result<(), Fail> {
     let heap = rt.alloc();
-    let mut bytes = Vec::new(heap);
-    for _ in 0..16_384 {
-        bytes.extend_from_slice(&[0x1F, 0, 7, 0xFF])?;
-    }
+    let mut bytes = bytes_of(heap, &vec![in heap; 0x1F00_07FF; 16_384]?)?;
     reads(&rt, heap, &bytes, (0, 16_384))?;
     bytes.push(0x10)?;
     reads(&rt, heap, &bytes, (15, 0))?;
@@ -72,10 +70,10 @@ fn every_bit_is_named_or_refused(rt: HostRuntime) {
     ] {
         for bit in 0..28u32 {
             let set = 1 << bit;
-            let found = match decode(&[kind | set, 0, 0, 0, 0], 4) {
-                Ok(_) => (0, 0),
-                Err(fault) => (fault.number(), fault.place()),
-            };
+            let found = decode(&[kind | set, 0, 0, 0, 0], 4).map_or_else(
+                |fault| (fault.number(), fault.place()),
+                |_| (0, 0),
+            );
             let wanted = if named & set == 0 { (17, 4) } else { (0, 0) };
             assert_eq!(rt; found, wanted, "bit {bit} of {kind:08X}");
         }
@@ -91,7 +89,7 @@ fn cut_short_is_18(rt: HostRuntime) -> Result<(), Fail> {
         heap,
         &[0x2000_0000, 1, 0x7000_0000, 2, 3, 4, 5, 0x1000_0000],
     )?;
-    assert!(rt; bytes.len() == 32);
+    assert_eq!(rt; bytes.len(), 32);
     for len in 0..33 {
         let wanted = match len {
             0 => (0, 0),

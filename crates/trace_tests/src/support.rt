@@ -1,3 +1,4 @@
+use base::fault::Fault;
 use base::layer::Layer;
 use records::trace::{TraceError, read_trace};
 use std::alloc::{AllocError, Global};
@@ -6,11 +7,10 @@ use std::test::Fail;
 
 // The bytes of words, big-endian.
 pub fn bytes_of(heap: Global, words: &[u32]) -> Result<Vec<u8>, AllocError> {
-    let mut bytes = Vec::new(heap);
-    for word in words {
-        bytes.extend_from_slice(&word.to_be_bytes())?;
-    }
-    Ok(bytes)
+    words
+        .iter()
+        .flat_map(|word| word.to_be_bytes())
+        .collect(heap)
 }
 
 // The number and the record that a refusal tells.
@@ -24,10 +24,9 @@ pub fn told(rt: &impl Abort, error: TraceError) -> Result<(u8, usize), Fail> {
 
 // Checks how a trace reads: 0 and the count of its records, or the number and the record of its refusal.
 pub fn reads(rt: &impl Abort, heap: Global, bytes: &[u8], wanted: (u8, usize)) -> Result<(), Fail> {
-    let found = match read_trace(heap, bytes) {
-        Ok(records) => (0, records.len()),
-        Err(error) => told(rt, error)?,
-    };
+    let found = read_trace(heap, bytes)
+        .map(|records| (0, records.len()))
+        .or_else(|error| told(rt, error))?;
     assert_eq!(rt; found, wanted, "a trace of {} bytes", bytes.len());
     Ok(())
 }
