@@ -1,128 +1,73 @@
 // A line comes to hold the block of an entry that the R-cache has: it is retagged, moved or filled.
-ghost use Rattle.std.specs.Prelude.{◌≡◌, ℕ, ◌%◌, ◌<◌, true, false};
+ghost use Rattle.std.specs.Prelude.{◌≡◌, ℕ, ◌<◌};
 ghost use Rattle.caches.specs.Choice.{rule_of};
 ghost use Rattle.caches.specs.Ranged.{ChildIn, Ranged};
-ghost use Rattle.rules.specs.Calls.{attach as attached, attach_same};
-ghost use Rattle.rules.specs.Sizes.{r_sets, r_ways, v_sets, v_ways};
-ghost use Rattle.steps.specs.Steps.{Attaches};
-ghost use Rattle.tables.specs.declared.types.Child.TheVariants.{NoChild};
+ghost use Rattle.rules.specs.Calls.{attach as attached};
+ghost use Rattle.rules.specs.Sizes.{r_sets, r_ways};
+ghost use Rattle.steps.specs.Steps.{Attaches, linked};
 
 use crate::found::Found;
+use crate::room::free_way;
 use base::block::{PhysicalBlock, VirtualBlock};
-use caches::choice::{entry_used, line_loaded, line_used, line_way};
-use caches::line::{fill_line, free_line, move_line, retag};
+use caches::cell::home;
+use caches::choice::{entry_used, line_loaded, line_used};
+use caches::line::{fill_line, move_line, retag};
 use lines::line::Level;
+use replacement::cache_rules::CacheRules;
 use replacement::rule::Rule;
-use tables::types::{Child, Place, Processor, R_SETS, V_SETS};
+use tables::types::{Child, Place, Processor, V_SETS};
 
-// The R-place of a block.
-fn home(block: PhysicalBlock, way: usize) -> Place
-    ensures set { result.set ≡ block.0 % r_sets }
-    ensures way { result.way ≡ way }
+// The line of the entry at `home`, whose child is `child`. A child in the tag's V-set becomes valid under the tag, and
+// one in another V-set moves to a way that is freed; where there is no child, a way is freed and filled.
+#[tactic(auto, unfolding(rules::specs::Sizes::v_sets))]
+fn link<V: Rule>(p: &mut Processor, rule: &V, child: Child, home: Place, tag: VirtualBlock) -> Found
+    ensures { Ranged p.old → ChildIn child → home.set < r_sets → home.way < r_ways → Attaches p.new result (linked child (rule_of V.Rule rule.now) p.old tag.0 home) }
 {
-    Place {
-        set: usize::from(block) % R_SETS,
-        way,
-    }
-}
-
-// The child stands in the tag's V-set: it becomes valid under the tag.
-fn attach_there<V: Rule, R: Rule>(
-    p: &mut Processor,
-    v_rule: &V,
-    r_rule: &R,
-    place: Place,
-    tag: VirtualBlock,
-    block: PhysicalBlock,
-    way: usize,
-) -> Found
-    ensures { place.set < v_sets → place.way < v_ways → way < r_ways → Attaches p.new result (attach_same true (rule_of V.Rule v_rule.now) (rule_of R.Rule r_rule.now) p.old tag.0 place.set place.way block.0 way) }
-{
-    let home = home(block, way);
-    retag(p, place.set, place.way, tag);
-    line_used(p, v_rule, place.set, place.way);
-    entry_used(p, r_rule, home.set, home.way);
-    Found {
-        way: place.way,
-        level: Level::Synonym,
-    }
-}
-
-// The child stands in another V-set: a V-way is freed, and the line moves there.
-fn attach_moved<V: Rule, R: Rule>(
-    p: &mut Processor,
-    v_rule: &V,
-    r_rule: &R,
-    from: Place,
-    tag: VirtualBlock,
-    block: PhysicalBlock,
-    way: usize,
-) -> Found
-    ensures { Ranged p.old → from.set < v_sets → from.way < v_ways → way < r_ways → Attaches p.new result (attach_same false (rule_of V.Rule v_rule.now) (rule_of R.Rule r_rule.now) p.old tag.0 from.set from.way block.0 way) }
-{
-    let home = home(block, way);
-    let set = usize::from(tag) % V_SETS;
-    let to = Place {
-        set,
-        way: line_way(p, v_rule, set),
-    };
-    free_line(p, to.set, to.way);
-    move_line(p, from, to, home, tag);
-    line_loaded(p, v_rule, to.set, to.way);
-    entry_used(p, r_rule, home.set, home.way);
-    Found {
-        way: to.way,
-        level: Level::Synonym,
-    }
-}
-
-// There is no child: a V-way is freed and filled from the entry.
-fn attach_filled<V: Rule, R: Rule>(
-    p: &mut Processor,
-    v_rule: &V,
-    r_rule: &R,
-    tag: VirtualBlock,
-    block: PhysicalBlock,
-    way: usize,
-) -> Found
-    ensures { Ranged p.old → way < r_ways → Attaches p.new result (attached NoChild (rule_of V.Rule v_rule.now) (rule_of R.Rule r_rule.now) p.old tag.0 block.0 way) }
-{
-    let home = home(block, way);
-    let set = usize::from(tag) % V_SETS;
-    let to = Place {
-        set,
-        way: line_way(p, v_rule, set),
-    };
-    free_line(p, to.set, to.way);
-    fill_line(p, to, home, tag);
-    line_loaded(p, v_rule, to.set, to.way);
-    entry_used(p, r_rule, home.set, home.way);
-    Found {
-        way: to.way,
-        level: Level::RHit,
+    match child {
+        Child::At { place, .. } => {
+            if place.set == usize::from(tag) % V_SETS {
+                retag(p, place, tag);
+                line_used(p, rule, place);
+                Found {
+                    way: place.way,
+                    level: Level::Synonym,
+                }
+            } else {
+                let to = free_way(p, rule, tag);
+                move_line(p, place, to, home, tag);
+                line_loaded(p, rule, to);
+                Found {
+                    way: to.way,
+                    level: Level::Synonym,
+                }
+            }
+        }
+        Child::NoChild => {
+            let to = free_way(p, rule, tag);
+            fill_line(p, to, home, tag);
+            line_loaded(p, rule, to);
+            Found {
+                way: to.way,
+                level: Level::RHit,
+            }
+        }
     }
 }
 
 // The line of a block that the R-cache has at `way`, where `child` is that entry's child.
+#[tactic(auto, using(crate::proofs::Attaching::attached, rules::proofs::Sizes::r_set_in))]
 pub fn attach<V: Rule, R: Rule>(
     p: &mut Processor,
-    v_rule: &V,
-    r_rule: &R,
+    rules: &CacheRules<V, R>,
     child: Child,
     tag: VirtualBlock,
     block: PhysicalBlock,
     way: usize,
 ) -> Found
-    ensures { Ranged p.old → ChildIn child → way < r_ways → Attaches p.new result (attached child (rule_of V.Rule v_rule.now) (rule_of R.Rule r_rule.now) p.old tag.0 block.0 way) }
+    ensures { Ranged p.old → ChildIn child → way < r_ways → Attaches p.new result (attached child (rule_of V.Rule rules.now.v) (rule_of R.Rule rules.now.r) p.old tag.0 block.0 way) }
 {
-    match child {
-        Child::NoChild => attach_filled(p, v_rule, r_rule, tag, block, way),
-        Child::At { place, .. } => {
-            if place.set == usize::from(tag) % V_SETS {
-                attach_there(p, v_rule, r_rule, place, tag, block, way)
-            } else {
-                attach_moved(p, v_rule, r_rule, place, tag, block, way)
-            }
-        }
-    }
+    let home = home(block, way);
+    let found = link(p, &rules.v, child, home, tag);
+    entry_used(p, &rules.r, home);
+    found
 }
