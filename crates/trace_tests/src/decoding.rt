@@ -122,9 +122,9 @@ fn decode_gives_record_and_rest(rt: HostRuntime) -> Result<(), Fail> {
 
 // Each with its number, and then loose bytes as a record that is cut short, once.
 #[test]
-fn records_come_one_after_another(rt: HostRuntime) {
+fn records_come_one_after_another(rt: HostRuntime) -> Result<(), Fail> {
     let words = WORDS;
-    let mut records = Records::new(&words, true);
+    let mut records = Records::new(&words, true)?;
     for (number, record) in (0..).zip(expected()) {
         assert_eq!(rt; records.next(), Some(Ok((number, record))));
     }
@@ -132,6 +132,18 @@ fn records_come_one_after_another(rt: HostRuntime) {
     assert_eq!(rt; records.next(), Some(Err(fault)));
     assert_eq!(rt; records.next(), None);
     assert_eq!(rt; records.next(), None);
+    Ok(())
+}
+
+#[test]
+fn more_words_than_a_trace_has_are_refused(rt: HostRuntime) -> Result<(), Fail> {
+    let words = vec![in rt.alloc(); 0x1000_0000; 16_385]?;
+    assert!(rt; Records::new(&words[..16_384], true).is_ok());
+    let Err(fault) = Records::new(&words, false) else {
+        return Err(Fail::new("taken"));
+    };
+    assert_eq!(rt; fault, FormatFault::TooLong);
+    Ok(())
 }
 
 #[test]
