@@ -1,3 +1,1 @@
 pub mod Tallies
-pub mod Uniform
-pub mod Masks

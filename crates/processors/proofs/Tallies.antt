@@ -1,23 +1,18 @@
--- A loop that adds up a list: what is counted so far, and what the rest adds to it.
-use Rattle.std.proofs.Common.{◌≡◌, ℕ, ◌+◌, ◌<◌, ◌≤◌, Bool, true, false, List, [], ◌∷◌, length, get_or, drop, arith}
-use Rattle.std.proofs.lemmas.List.{at_drop_more, at_drop_all}
-use Rattle.rules.specs.Invariant.{one}
+-- Present entries, in the library's word for a count.
+use Rattle.std.proofs.Common.{◌≡◌, ℕ, ◌+◌, Bool, true, false, not, cond, List, [], ◌∷◌, count_by, flat_map, refl, arith}
+use Rattle.std.proofs.lemmas.List.Recursion.{is_count_by}
+use Rattle.std.proofs.lemmas.List.Sums.{sum_by-append}
+use Rattle.tables.specs.declared.types.REntry.{REntry}
+use Rattle.rules.specs.Cache.{is_absent}
+use Rattle.rules.specs.Invariant.{one, in_row, resident}
 
--- f is what each element adds to the sum
-module _ {A : Type 0} (f : A → ℕ) (sum : List A → ℕ) (none : sum [] ≡ 0) (more : (x : A) (xs : List A) → sum (x ∷ xs) ≡ f x + sum xs) where
-  -- a loop's turn, and its end
-  pub tally_turn : (n c k : ℕ) (xs : List A) (d : A) → c + sum (drop n xs) ≡ sum xs → k ≡ f (get_or xs n d) → n < length xs → c + k + sum (drop (n + 1) xs) ≡ sum xs
-  tally_turn n c k xs d e h l =
-      let r = at_drop_more sum xs n d l in
-      let m = more (get_or xs n d) (drop (n + 1) xs) in
-      omega arith
+one_more : (t : Bool) (n : ℕ) → one t + n ≡ cond (not t) (1 + n) n
+one_more true n = omega arith
+one_more false n = refl
 
-  pub tally_end : (n c : ℕ) (xs : List A) → c + sum (drop n xs) ≡ sum xs → length xs ≤ n → c ≡ sum xs
-  tally_end n c xs e l =
-      let r = at_drop_all sum xs n l in
-      omega arith
+row_counted : (row : List REntry) → in_row row ≡ count_by (λ e. not (is_absent e.state)) row
+row_counted = is_count_by in_row (λ e. not (is_absent e.state)) refl (λ e es. one_more (is_absent e.state) (in_row es))
 
--- an entry counts for 1 at most
-pub one_few : (t : Bool) → one t ≤ 1
-one_few true = omega arith
-one_few false = omega arith
+pub rows_counted : (sets : List (List REntry)) → count_by (λ e. not (is_absent e.state)) (flat_map (λ row. row) sets) ≡ resident sets
+rows_counted [] = refl
+rows_counted (row ∷ rows) = let a = sum_by-append (λ (e : REntry). cond (not (is_absent e.state)) 1 0) row (flat_map (λ r. r) rows) in omega (arith, a, row_counted row, rows_counted rows)

@@ -4,13 +4,13 @@ ghost use Rattle.rules.specs.Calls.{swap_pages};
 
 use base::block::{Page, Process};
 use caches::swap::swap_page;
-use tables::types::{PROCESSORS, Processors};
+use tables::types::Processors;
 
 // The lines of a page are swapped out on every processor that runs the process.
 pub fn swap_pages(processors: &mut Processors, process: Process, page: Page)
     ensures { processors.new ≡ map (swap_pages process.0 page.0) processors.old }
 {
-    for cpu in 0..PROCESSORS {
-        swap_page(&mut processors[cpu], process, page);
+    for p in processors.iter_mut() {
+        swap_page(p, process, page);
     }
 }

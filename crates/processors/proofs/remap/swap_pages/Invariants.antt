@@ -1,7 +1,6 @@
-use Rattle.std.proofs.Common.{◌≡◌}
+use Rattle.std.proofs.Common.{◌≡◌, ◌++◌, map, take, drop}
 use Rattle.rules.specs.Calls.{swap_pages}
-use Rattle.caches.proofs.Maps.{map_first}
 use Rattle.processors.proofs.remap.swap_pages.Given as goal
 
-abbrev pub invariant-loop-cpu : goal.invariant-loop-cpu
-invariant-loop-cpu l = l.processors ≡ map_first (swap_pages l.process.0 l.page.0) l.cpu l.initial.processors
+abbrev pub invariant-loop-p : goal.invariant-loop-p
+invariant-loop-p l = l.processors ≡ map (swap_pages l.process.0 l.page.0) (take l.p-index l.initial.processors) ++ drop l.p-index l.initial.processors
