@@ -40,10 +40,10 @@ clean_ranged p (At q d) rg = put_line_ranged p q.set q.way (clean_line (line_at 
 
 empty_ranged : (p : Processor) (c : Child) → Ranged p → Ranged (empty_at p c)
 empty_ranged p NoChild rg = rg
-empty_ranged p (At q d) rg = put_line_ranged p q.set q.way no_line (λ f. let z : ◌≡◌ {A = ℕ} 0 1 = cc in let y : ⊥ = omega arith in absurd y) rg
+empty_ranged p (At q d) rg = put_line_ranged p q.set q.way no_line (λ f. absurd (cc)) rg
 
 clean_child_lem : (c : Child) (q : Place) (d : Bool) → clean_child c ≡ At q d → (e : Bool) × (c ≡ At q e)
-clean_child_lem NoChild q d h = let z : ◌≡◌ {A = ℕ} 0 1 = cc in let y : ⊥ = omega arith in absurd y
+clean_child_lem NoChild q d h = absurd (cc)
 clean_child_lem (At r e) q d h = let k : r ≡ q = cc in (e, ap (λ z. At z e) k)
 
 -- a read keeps a processor's places in range
@@ -61,7 +61,7 @@ shared_ranged (Some w) b p rg = go (modified (entry_at p (b % r_sets) w))
 pub taken_ranged : (o : Option ℕ) (b : ℕ) (p : Processor) → Ranged p → Ranged (take_by o b p)
 taken_ranged None b p rg = rg
 taken_ranged (Some w) b p rg =
-    let r = put_entry_ranged (empty_at p (entry_at p (b % r_sets) w).child) (b % r_sets) w no_entry (λ q d h. let z : ◌≡◌ {A = ℕ} 0 1 = cc in let y : ⊥ = omega arith in absurd y) (empty_ranged p (entry_at p (b % r_sets) w).child rg) in
+    let r = put_entry_ranged (empty_at p (entry_at p (b % r_sets) w).child) (b % r_sets) w no_entry (λ q d h. absurd (cc)) (empty_ranged p (entry_at p (b % r_sets) w).child rg) in
     record { lines = r.lines; children = r.children }
 
 -- a read counts nothing
@@ -116,7 +116,7 @@ read_rest (suc i) sender b q j le = go (read_rest i sender b q j (omega arith)) 
     go ih false =
         let p = proc_at r.procs i in
         ap (λ (z : List Processor). proc_at z j) (noted_procs (seen_by (r_find p b) b p) b i (set r.procs i (shared_by (r_find p b) b p)) r)
-        ∙ set_keeps (λ k (z : Processor). k ≡ j → z ≡ proc_at q.procs j) r.procs i j (shared_by (r_find p b) b p) no_processor (λ e. let z : ⊥ = omega arith in absurd z) (λ e. ih) refl
+        ∙ set_keeps (λ k (z : Processor). k ≡ j → z ≡ proc_at q.procs j) r.procs i j (shared_by (r_find p b) b p) no_processor (λ e. absurd (omega arith)) (λ e. ih) refl
 
 pub take_rest : (k sender b : ℕ) (ps : List Processor) (j : ℕ) → k ≤ j → proc_at (take_pass k sender b ps) j ≡ proc_at ps j
 take_rest zero sender b ps j le = refl
@@ -128,7 +128,7 @@ take_rest (suc i) sender b ps j le = go (take_rest i sender b ps j (omega arith)
     go : proc_at rs j ≡ proc_at ps j → (t : Bool) → proc_at (take_skip t b i rs) j ≡ proc_at ps j
     go ih true = ih
     go ih false =
-        set_keeps (λ k (z : Processor). k ≡ j → z ≡ proc_at ps j) rs i j (take_by (r_find (proc_at rs i) b) b (proc_at rs i)) no_processor (λ e. let z : ⊥ = omega arith in absurd z) (λ e. ih) refl
+        set_keeps (λ k (z : Processor). k ≡ j → z ≡ proc_at ps j) rs i j (take_by (r_find (proc_at rs i) b) b (proc_at rs i)) no_processor (λ e. absurd (omega arith)) (λ e. ih) refl
 
 -- after a read the processors can see a message as before
 pub read_snoopable : (n k sender b : ℕ) (q : Passed) → Snoopable n q.procs → Snoopable n (read_pass k sender b q).procs

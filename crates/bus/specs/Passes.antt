@@ -1,11 +1,11 @@
 -- What a message on the bus does to the other processors and to memory.
-use Rattle.std.specs.Prelude.{◌≡◌, ℕ, ◌-◌, ◌^◌, ◌<◌, ◌≤◌, Bool, true, false, List, ◌==◌, nat_lt}
+use Rattle.std.specs.Prelude.{◌≡◌, ℕ, ◌-◌, ◌^◌, ◌<◌, ◌≤◌, Bool, true, false, List, nat_lt}
 use Rattle.memory.specs.declared.memory.Memory as memories
 use Rattle.tables.specs.declared.types.Processor.{Processor}
 use Rattle.rules.specs.Sizes.{most_processors}
 use Rattle.rules.specs.Basic.{pick}
-use Rattle.rules.specs.Cache.{zeros}
-use Rattle.rules.specs.Bus.{Blocks, Passed, memory, proc_at, read_pass, read_skip, take_pass}
+use Rattle.rules.specs.Cache.{r_find, zeros}
+use Rattle.rules.specs.Bus.{Blocks, Passed, memory, noted_by, proc_at, read_pass, seen_by, shared_by, take_pass}
 use Rattle.caches.specs.Ranged.{Ranged}
 use Rattle.bus.specs.declared.pass.Shared.{Shared}
 
@@ -37,11 +37,12 @@ module _ {S : Type 0} (s : memories.Ghosts S) where
   abbrev pub start_of : List Processor → S → Passed
   start_of ps x = record { procs = ps; mem = blocks_of x; supplier = memory; acked = false }
 
-  -- processor i's part of a read: what it came to goes from r to t
-  pub record Turns (i sender b : ℕ) (ps qs : List Processor) (x y : S) (r t : Shared) : Type 0 where
+  -- processor i, not the sender, sees a read, and goes from p to q; what the read came to goes from r to t
+  pub record Turns (i b : ℕ) (p q : Processor) (x y : S) (r t : Shared) : Type 0 where
     pub sound : s.sound y
     pub count : s.count y ≡ s.count x
-    pub pass : passed_of qs y t ≡ read_skip (i == sender) b i (passed_of ps x r)
+    pub processor : q ≡ shared_by (r_find p b) b p
+    pub pass : (ps qs : List Processor) → passed_of qs y t ≡ noted_by (seen_by (r_find p b) b p) b i qs (passed_of ps x r)
 
   -- a read on the bus: the processors go from ps to qs, the memory from x to y
   pub record Shares (n sender b : ℕ) (ps qs : List Processor) (x y : S) (r : Shared) : Type 0 where

@@ -1,23 +1,26 @@
 // How the other processors see a message: each in turn, in rising order, and never the sender.
-ghost use Rattle.std.specs.Prelude.{◌≡◌, ℕ, ◌<◌};
+ghost use Rattle.std.specs.Prelude.{◌≡◌, ◌<◌};
 ghost use Rattle.bus.specs.Passes.{Fetches, Shares, Snoopable, Turns};
 ghost use Rattle.caches.specs.Ranged.{Ranged};
-ghost use Rattle.rules.specs.Bus.{proc_at, take_pass};
-ghost use Rattle.rules.specs.Sizes.{most_processors};
+ghost use Rattle.rules.specs.Bus.{take_pass};
+ghost use Rattle.tables.specs.Messages.{sender_number};
 
 use base::block::PhysicalBlock;
 use caches::snoop::{snoop_read, snoop_take};
 use memory::memory::Memory;
-use tables::message::MEMORY;
-use tables::types::{PROCESSORS, Processors, Snoop};
+use records::record::ProcessorNumber;
+use tables::message::{Sender, Supplier};
+use tables::types::{PROCESSORS, Processor, Processors, Snoop};
 
 // Every other processor, in rising order, sees an invalidation of a block. The first `count` records are the board's.
-pub fn invalidate(processors: &mut Processors, count: usize, sender: u8, block: PhysicalBlock)
-    ensures { Snoopable count processors.old → processors.new ≡ take_pass count sender block.0 processors.old }
+// The records and their count stay two parameters: they are fields of the machine, which lends its memory beside them.
+pub fn invalidate(processors: &mut Processors, count: usize, sender: Sender, block: PhysicalBlock)
+    ensures { Snoopable count processors.old → processors.new ≡ take_pass count (sender_number sender) block.0 processors.old }
 {
-    for i in 0..count.min(PROCESSORS) {
-        if i != usize::from(sender) {
-            snoop_take(&mut processors[i], block);
+    let writer = usize::from(sender.number());
+    for (i, p) in processors[..count.min(PROCESSORS)].iter_mut().enumerate() {
+        if i != writer {
+            snoop_take(p, block);
         }
     }
 }
@@ -25,35 +28,30 @@ pub fn invalidate(processors: &mut Processors, count: usize, sender: u8, block: 
 // What a read on the bus came to: who supplies the block, and whether another processor has it.
 #[derive(Clone, Copy, Debug, PartialEq, Eq)]
 pub struct Shared {
-    pub supplier: u8,
+    pub supplier: Supplier,
     pub acked: bool,
 }
 
-// Processor i, unless it is the sender, sees a read of a block; `shared` is what the read came to before it.
+// A processor other than the sender sees a read of a block; `shared` is what the read came to before it.
 fn share_at<S: Memory>(
-    processors: &mut Processors,
+    p: &mut Processor,
     memory: &mut S,
-    i: usize,
-    sender: u8,
+    number: ProcessorNumber,
     block: PhysicalBlock,
     shared: Shared,
 ) -> Shared
-    requires { i < most_processors }
-    ensures { Ranged (proc_at processors.old i) → S.Memory.sound memory.old → block.0 < S.Memory.count memory.old → Turns S.Memory i sender block.0 processors.old processors.new memory.old memory.new shared result }
+    ensures { Ranged p.old → S.Memory.sound memory.old → block.0 < S.Memory.count memory.old → Turns S.Memory number.0 block.0 p.old p.new memory.old memory.new shared result }
 {
-    if i == usize::from(sender) {
-        return shared;
-    }
-    match snoop_read(&mut processors[i], block) {
+    match snoop_read(p, block) {
         Snoop::NotHeld => shared,
         Snoop::Held => Shared {
-            supplier: shared.supplier,
             acked: true,
+            ..shared
         },
         Snoop::Supplied { words } => {
             let _ = memory.write(block, words);
             Shared {
-                supplier: i as u8,
+                supplier: Supplier::Holder(number),
                 acked: true,
             }
         }
@@ -65,17 +63,20 @@ pub fn share<S: Memory>(
     processors: &mut Processors,
     memory: &mut S,
     count: usize,
-    sender: u8,
+    sender: Sender,
     block: PhysicalBlock,
 ) -> Shared
-    ensures { Snoopable count processors.old → S.Memory.sound memory.old → block.0 < S.Memory.count memory.old → Shares S.Memory count sender block.0 processors.old processors.new memory.old memory.new result }
+    ensures { Snoopable count processors.old → S.Memory.sound memory.old → block.0 < S.Memory.count memory.old → Shares S.Memory count (sender_number sender) block.0 processors.old processors.new memory.old memory.new result }
 {
+    let reader = usize::from(sender.number());
     let mut shared = Shared {
-        supplier: MEMORY,
+        supplier: Supplier::Memory,
         acked: false,
     };
-    for i in 0..count.min(PROCESSORS) {
-        shared = share_at(processors, memory, i, sender, block, shared);
+    for (i, p) in processors[..count.min(PROCESSORS)].iter_mut().enumerate() {
+        if i != reader {
+            shared = share_at(p, memory, ProcessorNumber(i as u8), block, shared);
+        }
     }
     shared
 }
@@ -85,11 +86,11 @@ pub fn fetch<S: Memory>(
     processors: &mut Processors,
     memory: &mut S,
     count: usize,
-    sender: u8,
+    sender: Sender,
     block: PhysicalBlock,
     exclusive: bool,
 ) -> Shared
-    ensures { Snoopable count processors.old → S.Memory.sound memory.old → block.0 < S.Memory.count memory.old → Fetches S.Memory exclusive count sender block.0 processors.old processors.new memory.old memory.new result }
+    ensures { Snoopable count processors.old → S.Memory.sound memory.old → block.0 < S.Memory.count memory.old → Fetches S.Memory exclusive count (sender_number sender) block.0 processors.old processors.new memory.old memory.new result }
 {
     let shared = share(processors, memory, count, sender, block);
     if exclusive {
