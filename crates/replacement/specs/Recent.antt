@@ -21,6 +21,10 @@ pack (x ∷ xs) = x + 4 * pack xs
 abbrev pub renewed : ℕ → ℕ → ℕ
 renewed w x = pack ((x % ways) ∷ take 3 (without (x % ways) (numbers w)))
 
+-- a word after one more number: its numbers go up by a place, and the highest goes
+abbrev pub shift : ℕ → ℕ → ℕ
+shift w y = w % 64 * 4 + y
+
 -- the candidates for a choice: the numbers from the oldest to the newest, then every way from the lowest
 abbrev pub oldest_first : ℕ → List ℕ
 oldest_first w = reverse (numbers w) ++ range_with_len 0 ways

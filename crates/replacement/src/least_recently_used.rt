@@ -1,11 +1,11 @@
 ghost use Rattle.std.specs.Prelude.{◌≡◌, reverse};
-ghost use Rattle.replacement.specs.Recent.{numbers, oldest, renewed};
+ghost use Rattle.replacement.specs.Recent.{numbers, oldest, renewed, shift};
 ghost use Rattle.std.proofs.Common.{rules};
 ghost use Rattle.replacement.specs.Choices.{oldest_lawful};
 
 use crate::candidates::first_asked;
 use crate::rule::{Rule, WAYS, WaySet};
-use std::iter::once;
+use std::array::from_fn;
 
 // What a word of three numbers stays below.
 const THREE_NUMBERS: u32 = 64;
@@ -18,7 +18,14 @@ pub struct LeastRecentlyUsed;
 fn oldest_first(word: u32) -> [u8; WAYS]
     ensures { result ≡ reverse (numbers word) }
 {
-    [word >> 6, word >> 4, word >> 2, word].map(|rest| (rest % WAYS as u32) as u8)
+    from_fn(|place| (word >> (6 - 2 * place) & 3) as u8)
+}
+
+// The word after one more number: its numbers go up by a place, and the highest goes.
+fn shift(word: u32, number: u8) -> u32
+    ensures { result ≡ shift word number }
+{
+    word % THREE_NUMBERS * WAYS as u32 + u32::from(number)
 }
 
 // The word with a way first, then the first three of its numbers that differ from the way.
@@ -26,14 +33,12 @@ fn renew(word: u32, way: u8) -> u32
     ensures { result ≡ renewed word way }
 {
     let newest = way % WAYS as u8;
-    oldest_first(word)
-        .into_iter()
+    let rest = oldest_first(word)
+        .iter()
+        .copied()
         .filter(|number| *number != newest)
-        .chain(once(newest))
-        .fold(
-            0,
-            |rest, number| rest % THREE_NUMBERS * WAYS as u32 + u32::from(number),
-        )
+        .fold(0, shift);
+    shift(rest, newest)
 }
 
 impl Rule for LeastRecentlyUsed {
@@ -68,7 +73,8 @@ impl Rule for LeastRecentlyUsed {
     }
 
     fn choose(&self, word: u32, asked: WaySet) -> u8 {
-        let order = oldest_first(word).into_iter().chain(0..WAYS as u8);
+        let numbers = oldest_first(word);
+        let order = numbers.iter().copied().chain(0..WAYS as u8);
         first_asked(&asked, order)
     }
 }
