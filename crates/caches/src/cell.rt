@@ -2,6 +2,7 @@
 
 // The lines and the entries of a processor, read and put by place. Of a place outside the tables nothing is promised:
 // its numbers count modulo the sizes.
+// Each access is written for both tables: its body is one line, and a generic one would ask that the sizes are not 0.
 ghost use Rattle.std.specs.Prelude.{◌≡◌, ◌%◌, ◌<◌};
 ghost use Rattle.rules.specs.Cache.{entry_at, line_at, put_entry, put_line};
 ghost use Rattle.rules.specs.Sizes.{r_sets, r_ways, v_sets, v_ways};

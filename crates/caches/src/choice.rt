@@ -102,6 +102,8 @@ pub fn entry_way<R: Rule>(p: &Processor, rule: &R, set: usize) -> usize
     })
 }
 
+// The four below differ in the array and in the rule's method: each is two lines, and a generic one would be longer.
+
 // A line was used.
 #[tactic(auto, using(crate::proofs::Modulo::modulo), unfolding(rules::specs::Sizes::v_sets, rules::specs::Sizes::v_ways))]
 pub fn line_used<V: Rule>(p: &mut Processor, rule: &V, at: Place)

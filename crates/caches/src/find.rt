@@ -1,4 +1,5 @@
 // The search of a set for a block.
+// Lines and entries have one each: they differ in the table and in the test, and a search is one chain.
 ghost use Rattle.std.specs.Prelude.{◌≡◌, ℕ, ◌<◌};
 ghost use Rattle.caches.specs.Found.{FoundBelow};
 ghost use Rattle.rules.specs.Cache.{hits, holds, r_find, v_find};

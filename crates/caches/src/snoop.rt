@@ -11,7 +11,7 @@ use crate::count::count_up;
 use crate::find::find_entry;
 use crate::line::{is_vdirty, with_vdirty};
 use base::block::{PhysicalBlock, Words};
-use tables::types::{Child, EntryState, Processor, REntry, Snoop, VLine};
+use tables::types::{Child, EntryState, Processor, REntry, Snoop};
 
 // The line of a child is emptied.
 fn empty_child(p: &mut Processor, child: Child)
@@ -62,15 +62,9 @@ fn clean_line(p: &mut Processor, child: Child)
     ensures { ChildIn child → p.new ≡ clean_at p.old child }
 {
     if let Child::At { place, .. } = child {
-        let line = line_at(p, place);
-        put_line(
-            p,
-            place,
-            VLine {
-                dirty: false,
-                ..line
-            },
-        );
+        let mut line = line_at(p, place);
+        line.dirty = false;
+        put_line(p, place, line);
     }
 }
 
@@ -80,10 +74,10 @@ fn supply(entry: &REntry, words: Words) -> REntry
 {
     REntry {
         state: EntryState::Shared,
-        block: entry.block,
         words,
         rdirty: false,
         child: with_vdirty(entry.child, false),
+        ..*entry
     }
 }
 
