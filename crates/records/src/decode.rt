@@ -119,7 +119,7 @@ fn device_read(first: u32) -> Record
     }
 }
 
-// A write at the front of the words: two words.
+// A write at the front of the words: two words. Here and below the project fixes a pattern over the words for each kind.
 fn write(words: &[u32], record: u32) -> Result<(Record, &[u32]), FormatFault>
     ensures { seen result ≡ at_front «record» (write_of «record») words.now }
 {

@@ -4,7 +4,7 @@ ghost use Rattle.trace_map.specs.Played.{is_enter, is_erase, played, played_all}
 use paging::map::ChangeableMap;
 use records::record::Record;
 
-// How many of the records are enters.
+// How many of the records are enters. This and the next stay two: they differ in a pattern, which is no value to pass on.
 pub fn enters(records: &[Record]) -> usize
     ensures { result ≡ count_by is_enter records.now }
 {

@@ -107,6 +107,7 @@ fn read_trace_gives_each_kind(rt: HostRuntime) -> Result<(), Fail> {
     Ok(())
 }
 
+// The rest is carried on by hand, since the call alone is tried here.
 #[test]
 fn decode_gives_record_and_rest(rt: HostRuntime) -> Result<(), Fail> {
     let words = WORDS;
