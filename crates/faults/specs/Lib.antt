@@ -1,3 +1,2 @@
-pub mod Beside
 pub mod MachineFaults
 pub mod TraceFaults
