@@ -1,30 +1,19 @@
--- A run of a trace's words, record by record.
-use Rattle.std.proofs.Common.{◌≡◌, ℕ, zero, suc, ◌+◌, ◌<◌, Bool, true, false, List, [], ◌∷◌, ◌++◌, length, Some, None, Ok, Err, Option, Result, sym, refl, ap, ◌∙◌, append_assoc, arith}
+-- A run of a trace's records, one by one.
+use Rattle.std.proofs.Common.{◌≡◌, ℕ, zero, suc, ◌+◌, ◌<◌, ◌≤◌, Bool, true, false, List, [], ◌∷◌, ◌++◌, length, Some, None, Ok, Err, Option, Result, sym, refl, ap, ◌∙◌, append_assoc, arith}
 use Rattle.std.proofs.lemmas.List.{append-nil}
 use Rattle.base.specs.Sizes.{block_words}
 use Rattle.memory.specs.declared.memory.Memory as memories
 use Rattle.paging.specs.declared.map.Map as maps
 use Rattle.replacement.specs.declared.rule.Rule as replacements
 use Rattle.records.specs.declared.fault.FormatFault.{FormatFault}
-use Rattle.records.specs.declared.fault.FormatFault.TheVariants.{CutShort}
 use Rattle.records.specs.declared.record.Record.{Record}
 use Rattle.records.specs.declared.record.Record.TheVariants.{Read, Write, Switch, Enter, Erase, DeviceRead, DeviceWrite}
 use Rattle.records.specs.Records.{decoded}
-use Rattle.records.specs.Traces.{ended, trace_from}
-use Rattle.records.proofs.Steps.{trace_ends, trace_more, trace_stops}
+use Rattle.records.specs.Traces.{Trace, carried, told, trace_from}
 use Rattle.lines.specs.declared.line.Line.{Line}
 use Rattle.lines.specs.Lines.{line_bytes}
-use Rattle.memory.specs.declared.fault.MemoryFault.{MemoryFault}
-use Rattle.memory.specs.declared.fault.MemoryFault.TheVariants.{Outside}
-use Rattle.memory.specs.Fault.{fault_number as memory_number}
-use Rattle.paging.specs.declared.fault.MapFault.{MapFault}
-use Rattle.paging.specs.declared.fault.MapFault.TheVariants.{NoFrame, OutOfRange}
-use Rattle.paging.specs.Fault.{fault_number as map_number}
-use Rattle.faults.specs.declared.machine_fault.SetupFault.{SetupFault}
-use Rattle.faults.specs.declared.machine_fault.SetupFault.TheVariants.{Processors, MemorySize}
 use Rattle.faults.specs.declared.machine_fault.MachineFault.{MachineFault}
-use Rattle.faults.specs.declared.machine_fault.MachineFault.TheVariants.{Setup as Unset, Full, NoProcessor, NoAddress, Map, BeyondMemory, BusHeld, NoProcess, BusTaken, NoTenure, Memory, SliceLength, NoPlace}
-use Rattle.faults.specs.MachineFaults.{fault_number, setup_fault_number}
+use Rattle.faults.specs.MachineFaults.{fault_number, machine_numbered}
 use Rattle.faults.specs.TraceFaults.{trace_number}
 use Rattle.faults.specs.declared.trace_fault.TraceFault.{TraceFault}
 use Rattle.rules.specs.Calls.{Answer, Board, Ref, Rules, Step, device_number, device_read_by, device_write_by, make_ref, nothing, ref_number, refer, remap_by, remap_number, switch_by, switch_number, take, take_bus, take_number}
@@ -33,7 +22,7 @@ use Rattle.rules.specs.Listing.{word_at, fault_line, line_of, lines_from, listin
 use Rattle.machine.specs.State.{HasPast, board, rules_of}
 use Rattle.machine.specs.declared.machine.Machine.{Machine}
 use Rattle.listing.specs.Played.{Lists, Plays, line_for, record_events, record_fault}
-use Rattle.listing.specs.Listed.{Going, traced_from, words_from}
+use Rattle.listing.specs.Listed.{Going, items_listed}
 
 -- a refused record answers nothing
 refer_nothing : (n k : ℕ) (rs : Rules) (st : Board) (r : Ref) → n ≡ suc k → (refer n rs st r).answer ≡ nothing
@@ -84,81 +73,83 @@ played_nothing rs (Erase q g) st k e = remap_nothing (remap_number st q.0 g.0 0)
 played_nothing rs (DeviceRead b) st k e = moved_nothing _ k st (λ s. device_read_nothing (device_number s s.number b.0 block_words) k b.0 s) e
 played_nothing rs (DeviceWrite b ws) st k e = moved_nothing _ k st (λ s. device_write_nothing (device_number s s.number b.0 (length ws)) k b.0 ws s) e
 
--- so the line of a run record is the rules', refused or not
-map_positive : (f : MapFault) → (k : ℕ) × (map_number f ≡ suc k)
-map_positive (NoFrame g) = (5, refl)
-map_positive (OutOfRange g) = (8, refl)
-
-memory_positive : (f : MemoryFault) → (k : ℕ) × (memory_number f ≡ suc k)
-memory_positive (Outside b) = (11, refl)
-
-setup_positive : (f : SetupFault) → (k : ℕ) × (setup_fault_number f ≡ suc k)
-setup_positive Processors = (0, refl)
-setup_positive MemorySize = (1, refl)
-
--- no fault has the number 0
-pub fault_positive : (f : MachineFault) → (k : ℕ) × (fault_number f ≡ suc k)
-fault_positive (Unset f) = setup_positive f
-fault_positive (Full c) = (2, refl)
-fault_positive (NoProcessor p) = (3, refl)
-fault_positive (NoAddress p) = (4, refl)
-fault_positive (Map c f) = map_positive f
-fault_positive (BeyondMemory p) = (6, refl)
-fault_positive (BusHeld p) = (7, refl)
-fault_positive (NoProcess p) = (8, refl)
-fault_positive BusTaken = (9, refl)
-fault_positive NoTenure = (10, refl)
-fault_positive (Memory c f) = memory_positive f
-fault_positive SliceLength = (12, refl)
-fault_positive (NoPlace p) = (13, refl)
+-- so the line of a run record is the rules', refused or not: no fault has the number 0
+positive : (n : ℕ) → 0 < n → (k : ℕ) × (n ≡ suc k)
+positive zero h = absurd (omega arith)
+positive (suc k) h = (k, refl)
 
 pub line_is : (rs : Rules) (r : Record) (st : Board) (n : ℕ) (q : Result Line TraceFault) → Lists n r q (played rs r st) → line_for n q ≡ line_of n (played rs r st)
 line_is rs r st n (Ok l) h = h.1
 line_is rs r st n (Err e) h =
     let d = played rs r st in
-    let p = fault_positive (record_fault r d.number) in
+    let p = positive (fault_number (record_fault r d.number)) (machine_numbered (record_fault r d.number)).0 in
     let z : d.number ≡ suc p.0 = sym h.1 ∙ ap trace_number h.0 ∙ p.1 in
     let a : d.answer ≡ nothing = played_nothing rs r st p.0 z in
     λ j. record { «record» = n; status = h.1 j; level = (sym a j).level; word = (sym a j).word; messages = word_at (sym a j).sent 0 ∷ word_at (sym a j).sent 1 ∷ [] }
 
-module _ {M S V R : Type 0} (m : maps.Ghosts M) (s : memories.Ghosts S) (v : replacements.Ghosts V) (u : replacements.Ghosts R) (x₀ : Machine M S V R) (c : Setup) (loose : Bool) (out₀ words : List ℕ) where
+-- what an iterator over records tells of a trace is listed as the trace
+told_listed : (rs : Rules) (n : ℕ) (st : Board) (records : List Record) (f : Option FormatFault) → items_listed rs st (told n (record { records = records; fault = f })) ≡ listing_bytes (lines_from rs n st records f)
+told_listed rs n st [] None = refl
+told_listed rs n st [] (Some e) = refl
+told_listed rs n st (r ∷ more) f = ap (λ (z : List ℕ). line_bytes (line_of n (played rs r st)) ++ z) (told_listed rs (n + 1) (played rs r st).after more f)
+
+pub trace_listed : (rs : Rules) (st : Board) (t : Trace) → items_listed rs st (told 0 t) ≡ listing_bytes (lines_from rs 0 st t.records t.fault)
+trace_listed rs st t = told_listed rs 0 st t.records t.fault
+
+-- there are no more items than words, and one
+more_told : (k n : ℕ) (loose : Bool) (d : Result (Record × List ℕ) FormatFault) → ((rest : List ℕ) → length (told (n + 1) (trace_from k (n + 1) loose rest)) ≤ k + 1)
+    → length (told n (carried d (λ rest. trace_from k (n + 1) loose rest))) ≤ k + 2
+more_told k n loose (Ok p) h = let l = h p.1 in omega arith
+more_told k n loose (Err e) h = omega arith
+
+told_few : (k n : ℕ) (loose : Bool) (ws : List ℕ) → length (told n (trace_from k n loose ws)) ≤ k + 1
+told_few zero n true ws = omega arith
+told_few zero n false ws = omega arith
+told_few (suc k) n true [] = omega arith
+told_few (suc k) n false [] = omega arith
+told_few (suc k) n loose (w ∷ ws) = let l = more_told k n loose (decoded n (w ∷ ws)) (told_few k (n + 1) loose) in omega arith
+
+pub items_few : (loose : Bool) (ws : List ℕ) → length (told 0 (trace_from (length ws) 0 loose ws)) ≤ length ws + 1
+items_few loose ws = told_few (length ws) 0 loose ws
+
+abbrev pub Items : Type 0
+Items = List (Result (ℕ × Record) FormatFault)
+
+module _ {M S V R : Type 0} (m : maps.Ghosts M) (s : memories.Ghosts S) (v : replacements.Ghosts V) (u : replacements.Ghosts R) (x₀ : Machine M S V R) (c : Setup) (out₀ : List ℕ) (items : Items) where
   -- nothing was run yet
-  pub starts : (h : History) → HasPast m s v u c h x₀ → Going m s v u x₀ x₀ c loose out₀ words out₀ 0 words
+  pub starts : (h : History) → HasPast m s v u c h x₀ → Going m s v u x₀ x₀ c out₀ items out₀ items
   starts h p = record { history = h; past = p; rules = refl; listed = refl }
 
   -- one record more
-  pub goes_on : (x y : Machine M S V R) (out out' : List ℕ) (n : ℕ) (rest after : List ℕ) (r : Record) (line : Line) (q : Result Line TraceFault) → Ok (r, after) ≡ decoded n rest → Plays m s v u r x y (Lists n r q) → line ≡ line_for n q → out' ≡ out ++ line_bytes line
-      → Going m s v u x₀ x c loose out₀ words out n rest → Going m s v u x₀ y c loose out₀ words out' (n + 1) after
-  goes_on x y out out' n rest after r line q ed P el eo G =
+  pub goes_on : (x y : Machine M S V R) (out out' : List ℕ) (n : ℕ) (r : Record) (left : Items) (line : Line) (q : Result Line TraceFault) → Plays m s v u r x y (Lists n r q) → line ≡ line_for n q → out' ≡ out ++ line_bytes line
+      → Going m s v u x₀ x c out₀ items out (Ok (n, r) ∷ left) → Going m s v u x₀ y c out₀ items out' left
+  goes_on x y out out' n r left line q P el eo G =
       let D = P c G.history G.past in
       let st = board m s v u x in
-      let d = played (rules_of m s v u x₀) r st in
-      let t = trace_from (length after) (n + 1) loose after in
+      let rs = rules_of m s v u x₀ in
+      let d = played rs r st in
       let same : played (rules_of m s v u x) r st ≡ d = ap (λ (z : Rules). played z r st) G.rules in
       let is : line ≡ line_of n d = el ∙ line_is (rules_of m s v u x) r st n q D.told ∙ ap (line_of n) same in
-      let whole : words_from (rules_of m s v u x₀) n st loose rest ≡ line_bytes line ++ words_from (rules_of m s v u x₀) (n + 1) (board m s v u y) loose after =
-      ap (traced_from (rules_of m s v u x₀) n st) (trace_more n loose rest after r ed)
-      ∙ (λ j. line_bytes (sym is j) ++ listing_bytes (lines_from (rules_of m s v u x₀) (n + 1) (sym (D.after ∙ ap (λ (z : Step). z.after) same) j) t.records t.fault)) in
+      let after : board m s v u y ≡ d.after = D.after ∙ ap (λ (z : Step). z.after) same in
       record {
         history = record_events (rules_of m s v u x) r st ++ G.history;
         past = D.past;
         rules = D.rules ∙ G.rules;
-        listed = ap (λ (z : List ℕ). z ++ words_from (rules_of m s v u x₀) (n + 1) (board m s v u y) loose after) eo ∙ append_assoc out (line_bytes line) (words_from (rules_of m s v u x₀) (n + 1) (board m s v u y) loose after) ∙ ap (λ (z : List ℕ). out ++ z) (sym whole) ∙ G.listed;
+        listed = (λ j. (eo ∙ ap (λ (z : Line). out ++ line_bytes z) is) j ++ items_listed rs (after j) left) ∙ append_assoc out (line_bytes (line_of n d)) (items_listed rs d.after left) ∙ G.listed;
       }
 
-  -- a fault ends the listing
-  pub stops_at : (x : Machine M S V R) (out out' : List ℕ) (n : ℕ) (rest : List ℕ) (f : FormatFault) (line : Line) → 0 < length rest → Err f ≡ decoded n rest → line ≡ fault_line f → out' ≡ out ++ line_bytes line
-      → Going m s v u x₀ x c loose out₀ words out n rest → out' ≡ out₀ ++ words_from (rules_of m s v u x₀) 0 (board m s v u x₀) loose words
-  stops_at x out out' n rest f line lt ed el eo G =
-      eo ∙ ap (λ (z : List ℕ). out ++ z) (ap line_bytes el ∙ sym (append-nil (line_bytes (fault_line f))) ∙ sym (ap (traced_from (rules_of m s v u x₀) n (board m s v u x)) (trace_stops n loose rest f lt ed))) ∙ G.listed
+  -- a fault is told
+  pub stops_at : (x : Machine M S V R) (out out' : List ℕ) (f : FormatFault) (left : Items) (line : Line) → line ≡ fault_line f → out' ≡ out ++ line_bytes line
+      → Going m s v u x₀ x c out₀ items out (Err f ∷ left) → Going m s v u x₀ x c out₀ items out' left
+  stops_at x out out' f left line el eo G =
+      let rs = rules_of m s v u x₀ in
+      record {
+        history = G.history;
+        past = G.past;
+        rules = G.rules;
+        listed = (λ j. (eo ∙ ap (λ (z : Line). out ++ line_bytes z) el) j ++ items_listed rs (board m s v u x) left) ∙ append_assoc out (line_bytes (fault_line f)) (items_listed rs (board m s v u x) left) ∙ G.listed;
+      }
 
-  -- the words are at their end
-  pub ends_loose : (x : Machine M S V R) (out out' : List ℕ) (n : ℕ) (rest : List ℕ) (line : Line) → length rest ≡ 0 → loose ≡ true → line ≡ fault_line (CutShort n) → out' ≡ out ++ line_bytes line
-      → Going m s v u x₀ x c loose out₀ words out n rest → out' ≡ out₀ ++ words_from (rules_of m s v u x₀) 0 (board m s v u x₀) loose words
-  ends_loose x out out' n rest line lr lo el eo G =
-      eo ∙ ap (λ (z : List ℕ). out ++ z) (ap line_bytes el ∙ sym (append-nil (line_bytes (fault_line (CutShort n)))) ∙ sym (ap (traced_from (rules_of m s v u x₀) n (board m s v u x)) (trace_ends n loose rest lr ∙ ap (ended n) lo))) ∙ G.listed
-
-  pub ends_whole : (x : Machine M S V R) (out : List ℕ) (n : ℕ) (rest : List ℕ) → length rest ≡ 0 → loose ≡ false
-      → Going m s v u x₀ x c loose out₀ words out n rest → out ≡ out₀ ++ words_from (rules_of m s v u x₀) 0 (board m s v u x₀) loose words
-  ends_whole x out n rest lr lo G =
-      sym (append-nil out) ∙ ap (λ (z : List ℕ). out ++ z) (sym (ap (traced_from (rules_of m s v u x₀) n (board m s v u x)) (trace_ends n loose rest lr ∙ ap (ended n) lo))) ∙ G.listed
+  -- nothing is left
+  pub ends : (x : Machine M S V R) (out : List ℕ) → Going m s v u x₀ x c out₀ items out [] → out ≡ out₀ ++ items_listed (rules_of m s v u x₀) (board m s v u x₀) items
+  ends x out G = sym (append-nil out) ∙ G.listed

@@ -58,10 +58,14 @@ abbrev pub Lists : ℕ → Record → Result Line TraceFault → Step → Type 0
 Lists n r (Ok l) d = (d.number ≡ 0) × (l ≡ line_of n d)
 Lists n r (Err e) d = (e ≡ Machine n (record_fault r d.number)) × (trace_number e ≡ d.number) × (trace_place e ≡ n)
 
+-- the line of a refusal at record n, by its number
+abbrev pub refused : ℕ → ℕ → Line
+refused n k = record { «record» = n; status = k; level = NoReference; word = 0; messages = 0 ∷ 0 ∷ [] }
+
 -- the line of a run record, refused or not
 abbrev pub line_for : ℕ → Result Line TraceFault → Line
 line_for n (Ok l) = l
-line_for n (Err e) = record { «record» = n; status = trace_number e; level = NoReference; word = 0; messages = 0 ∷ 0 ∷ [] }
+line_for n (Err e) = refused n (trace_number e)
 
 module _ {M S V R : Type 0} (m : maps.Ghosts M) (s : memories.Ghosts S) (v : replacements.Ghosts V) (u : replacements.Ghosts R) where
   -- a record r played on x with this past: it is the rules' step, its events make the past longer, and the laws hold

@@ -1,21 +1,22 @@
 // From the bytes of a trace to the bytes of its listing.
 ghost use Rattle.std.specs.Prelude.{◌≡◌, ℕ, ◌+◌, ◌*◌, ◌^◌, ◌<◌, ◌≤◌, ◌++◌, length, IfOk, vec_len, vec_capacity};
 ghost use Rattle.lines.specs.Lines.{line_bytes, line_length};
-ghost use Rattle.listing.specs.Listed.{Listed, words_from};
+ghost use Rattle.listing.specs.Listed.{Listed, items_listed};
 ghost use Rattle.machine.specs.State.{HasPast, board, rules_of};
+ghost use Rattle.records.specs.Told.{told_by};
 ghost use Rattle.rules.specs.History.{History, Setup};
-ghost use Rattle.rules.specs.Listing.{fault_line as line_of_fault};
 
-use crate::play::{line_for, run_record};
-use lines::line::{LINE_BYTES, Level, Line, line_bytes};
+use crate::play::{line_for, refused_line, run_record};
+use base::fault::Fault;
+use lines::line::{LINE_BYTES, Line, line_bytes};
 use machine::machine::Machine;
 use memory::memory::Memory;
 use memory::word_memory::WordMemory;
 use paging::buffer::TranslationBuffer;
 use paging::map::ChangeableMap;
 use paging::table::FlatTable;
-use records::decode::decode;
 use records::fault::FormatFault;
+use records::iter::Records;
 use records::trace::TRACE_BYTES;
 use records::words::words_of;
 use replacement::least_recently_used::LeastRecentlyUsed;
@@ -32,54 +33,26 @@ fn push_line(out: &mut Vec<u8>, line: Line)
     ensures len { vec_len out.new ≡ vec_len out.old + line_length }
     ensures capacity { vec_capacity out.old ≤ vec_capacity out.new }
 {
-    match out.extend_from_slice(&line_bytes(line)) {
-        Ok(()) => {}
-        Err(_) => unreachable(),
-    }
+    let Ok(()) = out.extend_from_slice(&line_bytes(line)) else {
+        unreachable();
+    };
 }
 
-// The line of a fault of the trace.
-fn fault_line(fault: FormatFault) -> Line
-    ensures { result ≡ line_of_fault fault }
-{
-    Line {
-        record: fault.place(),
-        status: fault.number(),
-        level: Level::NoReference,
-        word: 0,
-        messages: [0, 0],
-    }
-}
-
-// The lines of a trace's words, run on a machine; `loose` says that bytes are left over after the words.
-fn list_words<M: ChangeableMap, S: Memory, V: Rule, R: Rule>(
+// The lines of a trace's records, run on a machine, and that of the trace's fault.
+fn list_records<M: ChangeableMap, S: Memory, V: Rule, R: Rule>(
     machine: &mut Machine<M, S, V, R>,
-    words: &[u32],
-    loose: bool,
+    records: Records<'_>,
     out: &mut Vec<u8>,
 )
-    requires few { length words.now < 2 ^ 32 }
-    requires room { vec_len out.old + line_length * (length words.now + 1) ≤ vec_capacity out.old }
-    ensures { (c : Setup) (h : History) → HasPast M.Map S.Memory V.Rule R.Rule c h machine.old → out.new.items ≡ out.old.items ++ words_from (rules_of M.Map S.Memory V.Rule R.Rule machine.old) 0 (board M.Map S.Memory V.Rule R.Rule machine.old) loose words.now }
+    requires { vec_len out.old + line_length * length (told_by records) ≤ vec_capacity out.old }
+    ensures { (c : Setup) (h : History) → HasPast M.Map S.Memory V.Rule R.Rule c h machine.old → out.new.items ≡ out.old.items ++ items_listed (rules_of M.Map S.Memory V.Rule R.Rule machine.old) (board M.Map S.Memory V.Rule R.Rule machine.old) (told_by records.entry) }
 {
-    let mut at = 0;
-    let mut rest = words;
-    while rest.len() > 0 {
-        match decode(rest, at) {
-            Ok((record, after)) => {
-                let line = line_for(at, run_record(machine, record, at));
-                push_line(out, line);
-                rest = after;
-                at += 1;
-            }
-            Err(fault) => {
-                push_line(out, fault_line(fault));
-                return;
-            }
-        }
-    }
-    if loose {
-        push_line(out, fault_line(FormatFault::CutShort { record: at }));
+    for next in records {
+        let line = match next {
+            Ok((number, record)) => line_for(number, run_record(machine, record, number)),
+            Err(fault) => refused_line(fault.place(), fault),
+        };
+        push_line(out, line);
     }
 }
 
@@ -90,7 +63,8 @@ pub fn list_trace(heap: Global, bytes: &[u8]) -> Result<Vec<u8>, AllocError>
 {
     if bytes.len() > TRACE_BYTES {
         let mut out = Vec::with_capacity(heap, LINE_BYTES)?;
-        push_line(&mut out, fault_line(FormatFault::TooLong));
+        let fault = FormatFault::TooLong;
+        push_line(&mut out, refused_line(fault.place(), fault));
         return Ok(out);
     }
     let words = words_of(heap, bytes)?;
@@ -104,6 +78,9 @@ pub fn list_trace(heap: Global, bytes: &[u8]) -> Result<Vec<u8>, AllocError>
         4,
         0,
     );
-    list_words(&mut machine, &words, bytes.len() % 4 != 0, &mut out);
+    match Records::new(&words, bytes.len() % 4 != 0) {
+        Ok(records) => list_records(&mut machine, records, &mut out),
+        Err(fault) => push_line(&mut out, refused_line(fault.place(), fault)),
+    }
     Ok(out)
 }

@@ -1,35 +1,22 @@
 // One record run on a machine.
 ghost use Rattle.std.specs.Prelude.{◌≡◌, [], ◌∷◌};
-ghost use Rattle.listing.specs.Played.{Lists, Plays, Shows, line_for, shown_of};
-ghost use Rattle.machine.specs.Answers.{access_answer};
+ghost use Rattle.listing.specs.Played.{Lists, Plays, Shows, line_for, refused, shown_of};
 ghost use Rattle.rules.specs.Calls.{nothing};
 ghost use Rattle.lines.specs.declared.line.Level.TheVariants.{NoReference};
 ghost use Rattle.machine.specs.Transfers.{read_answer, write_answer};
 
 use crate::shown::Shown;
+use base::fault::Fault;
 use base::size::BLOCK_WORDS;
-use faults::beside::beside;
 use faults::machine_fault::MachineFault;
 use faults::trace_fault::TraceFault;
 use lines::line::{Level, Line};
-use machine::answer::Access;
 use machine::machine::Machine;
 use memory::memory::Memory;
 use paging::map::ChangeableMap;
 use records::record::Record;
 use replacement::rule::Rule;
 use tables::message::Message;
-
-// What a line shows of a reference.
-fn shown(access: Access) -> Shown
-    ensures { result ≡ shown_of (access_answer access) }
-{
-    Shown {
-        level: access.level,
-        word: access.word,
-        messages: access.sent.words(),
-    }
-}
 
 // What a line shows of a call that answers nothing.
 fn silent() -> Shown
@@ -61,12 +48,12 @@ fn play<M: ChangeableMap, S: Memory, V: Rule, R: Rule>(
     ensures { Plays M.Map S.Memory V.Rule R.Rule «record» machine.old machine.new (Shows «record» result) }
 {
     match record {
-        Record::Read { processor, address } => Ok(shown(machine.read(processor, address)?)),
+        Record::Read { processor, address } => Ok(Shown::from(machine.read(processor, address)?)),
         Record::Write {
             processor,
             address,
             value,
-        } => Ok(shown(machine.write(processor, address, value)?)),
+        } => Ok(Shown::from(machine.write(processor, address, value)?)),
         Record::Switch { processor, process } => {
             machine.switch(processor, process)?;
             Ok(silent())
@@ -103,29 +90,36 @@ pub fn run_record<M: ChangeableMap, S: Memory, V: Rule, R: Rule>(
 ) -> Result<Line, TraceFault>
     ensures { Plays M.Map S.Memory V.Rule R.Rule «record» machine.old machine.new (Lists number «record» result) }
 {
-    let shown = beside(play(machine, record), number)?;
-    let messages = shown.messages;
+    let Shown {
+        level,
+        word,
+        messages,
+    } = play(machine, record).map_err(|fault| (fault, number))?;
     Ok(Line {
         record: number,
         status: 0,
-        level: shown.level,
-        word: shown.word,
+        level,
+        word,
         messages,
     })
+}
+
+// The line of a refusal at a record, whichever layer's the fault is.
+pub(crate) fn refused_line<F: Fault>(record: u32, fault: F) -> Line
+    ensures { result ≡ refused «record» (F.number_of fault) }
+{
+    Line {
+        record,
+        status: fault.number(),
+        level: Level::NoReference,
+        word: 0,
+        messages: [0, 0],
+    }
 }
 
 // The line of a record that was run, refused or not.
 pub fn line_for(number: u32, run: Result<Line, TraceFault>) -> Line
     ensures { result ≡ line_for number run }
 {
-    match run {
-        Ok(line) => line,
-        Err(fault) => Line {
-            record: number,
-            status: fault.number(),
-            level: Level::NoReference,
-            word: 0,
-            messages: [0, 0],
-        },
-    }
+    run.unwrap_or_else(|fault| refused_line(number, fault))
 }

@@ -49,7 +49,7 @@ module _ {M S V R : Type 0} (m : maps.Ghosts M) (s : memories.Ghosts S) (v : rep
 
   -- a machine as it is made, but for the records and the set-up as the code has them
   abbrev pub fresh : M → S → V → R → ℕ → ℕ → List Processor → Option SetupFault → Machine M S V R
-  fresh x y a b n id ps o = record { map = x; memory = y; v_rule = a; r_rule = b; processors = ps; count = n; held = false; accepted = 0; setup = o; number = id }
+  fresh x y a b n id ps o = record { map = x; memory = y; rules = record { v = a; r = b }; processors = ps; count = n; held = false; accepted = 0; setup = o; number = id }
 
   module _ (x : M) (y : S) (a : V) (b : R) (n id c : ℕ) (ps : List Processor) (o : Option SetupFault) (eo : o ≡ setup_of n c)
       (ep : ps ≡ replicate most_processors (new_processor (rules_of m s v u (fresh x y a b n id ps o)).for_v (rules_of m s v u (fresh x y a b n id ps o)).for_r)) (ec : s.sound y → c ≡ s.count y) where

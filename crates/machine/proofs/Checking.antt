@@ -12,7 +12,7 @@ use Rattle.replacement.specs.declared.rule.Rule as replacements
 use Rattle.faults.specs.declared.machine_fault.Caller.TheVariants.{Device}
 use Rattle.faults.specs.declared.machine_fault.MachineFault.{MachineFault}
 use Rattle.faults.specs.declared.machine_fault.MachineFault.TheVariants.{Memory, NoTenure, SliceLength}
-use Rattle.faults.specs.Beside.{besides}
+use Rattle.machine.proofs.Besides.{besides}
 use Rattle.faults.specs.MachineFaults.{fault_number}
 use Rattle.bus.proofs.Blocks.{same_blocks}
 use Rattle.rules.specs.Basic.{both, pick}

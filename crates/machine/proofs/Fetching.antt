@@ -11,7 +11,7 @@ use Rattle.memory.specs.declared.memory.Memory as memories
 use Rattle.paging.specs.declared.map.Map as maps
 use Rattle.replacement.specs.declared.rule.Rule as replacements
 use Rattle.lines.specs.declared.line.Level.TheVariants.{Miss}
-use Rattle.faults.specs.Beside.{besides}
+use Rattle.machine.proofs.Besides.{besides}
 use Rattle.faults.specs.declared.machine_fault.Caller.{Caller}
 use Rattle.tables.specs.declared.types.Child.TheVariants.{NoChild}
 use Rattle.tables.specs.declared.types.Counts.{Counts}
@@ -23,12 +23,12 @@ use Rattle.tables.specs.declared.types.Processor.{Processor}
 use Rattle.bus.specs.declared.pass.Shared.{Shared as Seen}
 use Rattle.bus.specs.Passes.{Fetches, Snoopable, blocks_of, fetch_pass, passed_of}
 use Rattle.bus.proofs.Loops.{fetch_snooped}
-use Rattle.processors.specs.Finish.{answered, finished}
+use Rattle.machine.proofs.Ending.{answered_at, finished_at}
 use Rattle.steps.specs.declared.found.Room.{Room}
 use Rattle.steps.specs.Steps.{Rooms, child_freed, installed, line_freed, next_entry}
 use Rattle.steps.proofs.Rooming.{child_counts, free_counts}
 use Rattle.rules.specs.Sizes.{most_processors, r_sets, v_sets}
-use Rattle.rules.specs.Bus.{Blocks, Passed, memory, message, proc_at}
+use Rattle.rules.specs.Bus.{Blocks, Passed, memory, message, proc_at, from_cpu}
 use Rattle.rules.specs.Cache.{entry_at, evict, evict_by, is_absent, line_at, r_find, v_way}
 use Rattle.rules.specs.Calls.{Board, Reached, cpu_at, fetch_kind, fetch_state, is_write, put_cpu, r_miss, snooped_by, with_mem, with_procs, write_back_by, write_back_sent}
 use Rattle.rules.specs.Invariant.{Filled}
@@ -219,9 +219,9 @@ module _ {M S V R : Type 0} (m : maps.Ghosts M) (s : memories.Ghosts S) (v : rep
       below₁ : b < s.count y₁
       below₁ = subst (λ (n : ℕ). b < n) (sym bk.count) F.below
 
-      pub miss_fetch : (qs : List Processor) (y₂ : S) (sh : Seen) → (Snoopable st.cpus (set st.procs cpu p') → s.sound y₁ → b < s.count y₁ → Fetches s z st.cpus i b (set st.procs cpu p') qs y₁ y₂ sh)
+      pub miss_fetch : (qs : List Processor) (y₂ : S) (sh : Seen) (o : ℕ) → o ≡ i → (Snoopable st.cpus (set st.procs cpu p') → s.sound y₁ → b < s.count y₁ → Fetches s z st.cpus o b (set st.procs cpu p') qs y₁ y₂ sh)
           → Fetches s z st.cpus i b (set st.procs cpu p') qs y₁ y₂ sh
-      miss_fetch qs y₂ sh k = k (subst (Snoopable st.cpus) (sym procs_is) seen) bk.sound below₁
+      miss_fetch qs y₂ sh o eo k = subst (λ (w : ℕ). Fetches s z st.cpus w b (set st.procs cpu p') qs y₁ y₂ sh) eo (k (subst (Snoopable st.cpus) (sym procs_is) seen) bk.sound below₁)
 
       module _ (qs : List Processor) (y₂ : S) (sh : Seen) (fe : Fetches s z st.cpus i b (set st.procs cpu p') qs y₁ y₂ sh) where
         pub miss_below : b < s.count y₂
@@ -244,9 +244,9 @@ module _ {M S V R : Type 0} (m : maps.Ghosts M) (s : memories.Ghosts S) (v : rep
         pub miss_ends : (y₃ : S) (ps : List Processor) (p₅ : Processor) (q : Sent) (n : REntry) (t' h' g w word acc : ℕ) → t' ≡ t → h' ≡ h → g ≡ vb → w ≡ word_of r.address.0 → s.sound y₃ → s.count y₃ ≡ s.count y₂ → blocks_of s y₃ ≡ blocks_of s y₂
             → st.held ≡ false → n ≡ record { state = fetch_state z sh.acked; block = record { 0 = b }; words = blocks_of s y₂ b; rdirty = false; child = NoChild }
             → (t' < v_sets → h' < r_sets → p₅ ≡ installed (rules_of m s v u x).for_v (rules_of m s v u x).for_r (proc_at qs cpu) t' room.line_way h' room.entry_way g n)
-            → (t' < v_sets → Ranged (proc_at (set qs cpu p₅) cpu) → Filled (line_at (proc_at (set qs cpu p₅) cpu) t' room.line_way) → ps ≡ finished r.value (set qs cpu p₅) cpu t' room.line_way w)
-            → (t' < v_sets → word ≡ answered r.value (set qs cpu p₅) cpu t' room.line_way w)
-            → sent_list q ≡ write_back_sent room.replaced.rdirty i room.replaced ++ (message (fetch_kind z) i sh.supplier b ∷ []) → acc ≡ x.accepted + 1
+            → (t' < v_sets → Ranged (proc_at (set qs cpu p₅) cpu) → Filled (line_at (proc_at (set qs cpu p₅) cpu) t' room.line_way) → ps ≡ finished_at r.value (set qs cpu p₅) cpu t' room.line_way w)
+            → (t' < v_sets → word ≡ answered_at r.value (set qs cpu p₅) cpu t' room.line_way w)
+            → sent_list q ≡ write_back_sent room.replaced.rdirty i room.replaced ++ (message (fetch_kind z) (from_cpu i) sh.supplier b ∷ []) → acc ≡ x.accepted + 1
             → Does m s v u x (with m s v u x y₃ ps acc) (Tells access_answer (reference_fault r.processor (page_at r)) (Ok (record { level = Miss; word = word; sent = q }))) (r_miss_step (rules_of m s v u x) st r b)
         miss_ends y₃ ps p₅ q n t' h' g w word acc et eh eg ew so₃ ec₃ eb₃ free en e₅ ef eo es ea =
             let lt : t' < v_sets = subst (λ (c : ℕ). c < v_sets) (sym et) (v_set_in vb) in
@@ -262,7 +262,7 @@ module _ {M S V R : Type 0} (m : maps.Ghosts M) (s : memories.Ghosts S) (v : rep
             λ j. record { procs = (landed st Z).procs; cpus = st.cpus; mem = eb₃ j; count = (ec₃ ∙ fe.count ∙ bk.count) j; table = st.table; held = st.held; accepted = st.accepted; setup = st.setup; number = st.number } in
             ends m s v u (reference_fault r.processor (page_at r)) x y₃ r reached ps acc word Miss q _ (record { map = A.sound.map; memory = so₃ }) (ap (λ (c : Bool). Rattle.rules.specs.Calls.bus_number c true) free)
             (ap (λ (c : Board). with_procs (board m s v u (with m s v u x y₃ x.processors x.accepted)) c.procs) at_here ∙ memory_is ∙ sym at_here)
-            (ef lt rg fl ∙ (λ j. finished r.value (ix j) (ec j) (et j) (rm.line_way j) (ew j)))
-            (eo lt ∙ (λ j. answered r.value (ix j) (ec j) (et j) (rm.line_way j) (ew j)))
+            (ef lt rg fl ∙ (λ j. finished_at r.value (ix j) (ec j) (et j) (rm.line_way j) (ew j)))
+            (eo lt ∙ (λ j. answered_at r.value (ix j) (ec j) (et j) (rm.line_way j) (ew j)))
             ea refl
-            (es ∙ (λ j. write_back_sent (rm.replaced j).rdirty i (rm.replaced j) ++ (message (fetch_kind (ez j)) i ((ap (λ (c : Passed). c.supplier) (came ∙ sym snooped)) j) b ∷ [])))
+            (es ∙ (λ j. write_back_sent (rm.replaced j).rdirty i (rm.replaced j) ++ (message (fetch_kind (ez j)) (from_cpu i) ((ap (λ (c : Passed). c.supplier) (came ∙ sym snooped)) j) b ∷ [])))

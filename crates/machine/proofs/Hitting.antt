@@ -9,7 +9,7 @@ use Rattle.faults.specs.declared.machine_fault.MachineFault.{MachineFault}
 use Rattle.tables.specs.declared.types.VLine.{VLine}
 use Rattle.tables.specs.declared.types.Processor.{Processor}
 use Rattle.bus.specs.Passes.{Snoopable}
-use Rattle.processors.specs.Finish.{answered, finished}
+use Rattle.machine.proofs.Ending.{answered_at, finished_at}
 use Rattle.rules.specs.Sizes.{most_processors, r_sets, r_ways, v_sets, v_ways}
 use Rattle.rules.specs.Bus.{Blocks, proc_at}
 use Rattle.rules.specs.Cache.{hits, line_at, v_find, v_used}
@@ -73,8 +73,8 @@ module _ {M S V R : Type 0} (m : maps.Ghosts M) (s : memories.Ghosts S) (v : rep
   pub hit_ends : (qs ps : List Processor) (p : Processor) (q : Sent) (cpu t' k word n : ℕ) → cpu ≡ i → t' ≡ t → k ≡ word_of r.address.0
       → Claimed st.held r.value st.cpus i l.rplace.set l.rplace.way st.procs qs q
       → p ≡ v_used (rules_of m s v u x).for_v (proc_at qs cpu) t' w
-      → (Ranged (proc_at (set qs cpu p) cpu) → Filled (line_at (proc_at (set qs cpu p) cpu) t' w) → ps ≡ finished r.value (set qs cpu p) cpu t' w k)
-      → word ≡ answered r.value (set qs cpu p) cpu t' w k → n ≡ x.accepted + 1
+      → (Ranged (proc_at (set qs cpu p) cpu) → Filled (line_at (proc_at (set qs cpu p) cpu) t' w) → ps ≡ finished_at r.value (set qs cpu p) cpu t' w k)
+      → word ≡ answered_at r.value (set qs cpu p) cpu t' w k → n ≡ x.accepted + 1
       → Does m s v u x (with m s v u x x.memory ps n) (Tells access_answer (reference_fault r.processor (page_at r)) (Ok (record { level = VHit; word = word; sent = q }))) (hit_step (rules_of m s v u x) st r w)
   hit_ends qs ps p q cpu t' k word n ec et ek cl ep ef ew en =
       let ix : set qs cpu p ≡ reached.at.procs =
@@ -84,8 +84,8 @@ module _ {M S V R : Type 0} (m : maps.Ghosts M) (s : memories.Ghosts S) (v : rep
       let fl : Filled (line_at (proc_at (set qs cpu p) cpu) t' w) = subst (λ (z : VLine). Filled z) (λ j. line_at (sym same j) (sym et j) w) (valid_filled (line_at (cpu_at reached.at i) t w).state ok.valid) in
       ends m s v u (reference_fault r.processor (page_at r)) x x.memory r reached ps n word VHit q _ (record { map = A.sound.map; memory = A.sound.memory }) cl.number
       (ap (λ (z : Board). with_procs st z.procs) at_is ∙ sym at_is)
-      (ef rg fl ∙ (λ j. finished r.value (ix j) (ec j) (et j) w (ek j)))
-      (ew ∙ (λ j. answered r.value (ix j) (ec j) (et j) w (ek j)))
+      (ef rg fl ∙ (λ j. finished_at r.value (ix j) (ec j) (et j) w (ek j)))
+      (ew ∙ (λ j. answered_at r.value (ix j) (ec j) (et j) w (ek j)))
       en refl (cl.messages ∙ upgrade_messages_lem (must_upgrade r.value st.procs i l.rplace.set l.rplace.way) st i l.rplace.set l.rplace.way)
 
   -- the refusal

@@ -9,7 +9,7 @@ use Rattle.tables.specs.declared.types.VLine.{VLine}
 use Rattle.tables.specs.declared.types.REntry.{REntry}
 use Rattle.tables.specs.declared.types.Processor.{Processor}
 use Rattle.bus.specs.Passes.{Snoopable}
-use Rattle.processors.specs.Finish.{answered, finished}
+use Rattle.machine.proofs.Ending.{answered_at, finished_at}
 use Rattle.steps.specs.declared.found.Found.{Found as FoundLine}
 use Rattle.steps.specs.Steps.{Attaches}
 use Rattle.rules.specs.Sizes.{most_processors, page_blocks, r_sets, r_ways, v_sets, v_ways}
@@ -87,16 +87,18 @@ module _ {M S V R : Type 0} (m : maps.Ghosts M) (s : memories.Ghosts S) (v : rep
   here_child = child_in (cpu_at st i) h w (ok_ranged (translate st.table (cpu_at st i).process.0) f (cpu_at st i) (A.ready.inv.each i A.cpu))
 
   -- the entry and the claim, as the code has them
-  pub here_entry : (e' : REntry) (cpu h' : ℕ) → cpu ≡ i → h' ≡ h → (h' < r_sets → w < r_ways → e' ≡ entry_at (proc_at x.processors cpu) h' w) → e' ≡ e
-  here_entry e' cpu h' ec eh el = el (subst (λ (z : ℕ). z < r_sets) (sym eh) (r_set_in b)) here_way ∙ (λ j. entry_at (proc_at x.processors (ec j)) (eh j) w)
+  pub here_entry : (e' : REntry) (cpu h' w' : ℕ) → cpu ≡ i → h' ≡ h → w' ≡ w → (h' < r_sets → w' < r_ways → e' ≡ entry_at (proc_at x.processors cpu) h' w') → e' ≡ e
+  here_entry e' cpu h' w' ec eh ew el =
+      el (subst (λ (z : ℕ). z < r_sets) (sym eh) (r_set_in b)) (subst (λ (z : ℕ). z < r_ways) (sym ew) here_way) ∙ (λ j. entry_at (proc_at x.processors (ec j)) (eh j) (ew j))
 
-  pub here_claim : (h' : ℕ) → h' ≡ h → (zs qs : List Processor) (o : Result Sent MachineFault) → zs ≡ st.procs
-      → (i < most_processors → Snoopable st.cpus zs → h' < r_sets → w < r_ways → Claims st.held r st.cpus h' w zs qs o)
+  pub here_claim : (h' w' : ℕ) → h' ≡ h → w' ≡ w → (zs qs : List Processor) (o : Result Sent MachineFault) → zs ≡ st.procs
+      → (i < most_processors → Snoopable st.cpus zs → h' < r_sets → w' < r_ways → Claims st.held r st.cpus h' w' zs qs o)
       → Claims st.held r st.cpus h w st.procs qs o
-  here_claim h' eh zs qs o ez k =
+  here_claim h' w' eh ew zs qs o ez k =
       subst (λ (z : List Processor). Claims st.held r st.cpus h w z qs o) ez
       (subst (λ (z : ℕ). Claims st.held r st.cpus z w zs qs o) eh
-      (k here_few (subst (Snoopable st.cpus) (sym ez) (snoopable f st A.ready)) (subst (λ (z : ℕ). z < r_sets) (sym eh) (r_set_in b)) here_way))
+      (subst (λ (z : ℕ). Claims st.held r st.cpus h' z zs qs o) ew
+      (k here_few (subst (Snoopable st.cpus) (sym ez) (snoopable f st A.ready)) (subst (λ (z : ℕ). z < r_sets) (sym eh) (r_set_in b)) (subst (λ (z : ℕ). z < r_ways) (sym ew) here_way))))
 
   pub here_stops : (qs : List Processor) (e : MachineFault) → Kept st.held r.value r.processor i h w st.procs qs e
       → Does m s v u x (with m s v u x x.memory qs x.accepted) (Tells access_answer (reference_fault r.processor (page_at r)) (Err e)) (r_hit_step (rules_of m s v u x) st r b w)
@@ -126,8 +128,8 @@ module _ {M S V R : Type 0} (m : maps.Ghosts M) (s : memories.Ghosts S) (v : rep
     pub here_ends : (qs ps : List Processor) (p : Processor) (q : Sent) (fd : FoundLine) (e' : REntry) (cpu t' k g word n : ℕ) → cpu ≡ i → t' ≡ t → k ≡ word_of r.address.0 → g ≡ (ref_of r).vb → e' ≡ e
         → Claimed st.held r.value st.cpus i h w st.procs qs q
         → (Ranged (proc_at qs cpu) → ChildIn e'.child → w < r_ways → Attaches p fd (attach e'.child (rules_of m s v u x).for_v (rules_of m s v u x).for_r (proc_at qs cpu) g b w))
-        → (fd.way < v_ways → Ranged (proc_at (set qs cpu p) cpu) → Filled (line_at (proc_at (set qs cpu p) cpu) t' fd.way) → ps ≡ finished r.value (set qs cpu p) cpu t' fd.way k)
-        → (fd.way < v_ways → word ≡ answered r.value (set qs cpu p) cpu t' fd.way k) → n ≡ x.accepted + 1
+        → (fd.way < v_ways → Ranged (proc_at (set qs cpu p) cpu) → Filled (line_at (proc_at (set qs cpu p) cpu) t' fd.way) → ps ≡ finished_at r.value (set qs cpu p) cpu t' fd.way k)
+        → (fd.way < v_ways → word ≡ answered_at r.value (set qs cpu p) cpu t' fd.way k) → n ≡ x.accepted + 1
         → Does m s v u x (with m s v u x x.memory ps n) (Tells access_answer (reference_fault r.processor (page_at r)) (Ok (record { level = fd.level; word = word; sent = q }))) (r_hit_step (rules_of m s v u x) st r b w)
     here_ends qs ps p q fd e' cpu t' k g word n ec et ek eg ee cl ea ef ew en =
         let mine : proc_at qs cpu ≡ proc_at Q i = λ j. proc_at (cl.processors j) (ec j) in
@@ -142,6 +144,6 @@ module _ {M S V R : Type 0} (m : maps.Ghosts M) (s : memories.Ghosts S) (v : rep
         let fl : Filled (line_at (proc_at (set qs cpu p) cpu) t' fd.way) = subst (λ (z : VLine). Filled z) (λ j. line_at (sym same j) (sym et j) (sym ew' j)) (valid_filled (line_at (cpu_at reached.at i) t reached.way).state ok.valid) in
         ends m s v u (reference_fault r.processor (page_at r)) x x.memory r reached ps n word fd.level q _ (record { map = A.sound.map; memory = A.sound.memory }) cl.number
         (ap (λ (z : Board). with_procs st z.procs) at_is ∙ sym at_is)
-        (ef at₁.within rg fl ∙ (λ j. finished r.value (ix j) (ec j) (et j) (ew' j) (ek j)))
-        (ew at₁.within ∙ (λ j. answered r.value (ix j) (ec j) (et j) (ew' j) (ek j)))
+        (ef at₁.within rg fl ∙ (λ j. finished_at r.value (ix j) (ec j) (et j) (ew' j) (ek j)))
+        (ew at₁.within ∙ (λ j. answered_at r.value (ix j) (ec j) (et j) (ew' j) (ek j)))
         en (at₁.level ∙ level_is) (cl.messages ∙ upgrade_messages_lem (needs_upgrade r.value e) st i h w)

@@ -1,5 +1,8 @@
+pub mod Besides
+pub mod Choosing
 pub mod Lawful
 pub mod Beginning
+pub mod Ending
 pub mod Ends
 pub mod Admitting
 pub mod Accepting
@@ -10,6 +13,7 @@ pub mod Looking
 pub mod Referring
 pub mod Switching
 pub mod Remapping
+pub mod Placing
 pub mod Readings
 pub mod Tenures
 pub mod Checking

@@ -13,7 +13,7 @@ use Rattle.paging.specs.declared.fault.MapFault.{MapFault}
 use Rattle.paging.specs.declared.fault.MapFault.TheVariants.{NoFrame}
 use Rattle.paging.specs.Frames.{found, in_frame, looked, named, page_with, translated}
 use Rattle.replacement.specs.declared.rule.Rule as replacements
-use Rattle.faults.specs.Beside.{besides}
+use Rattle.machine.proofs.Besides.{besides}
 use Rattle.faults.specs.declared.machine_fault.Caller.{Caller}
 use Rattle.faults.specs.declared.machine_fault.Caller.TheVariants.{Processor}
 use Rattle.faults.specs.declared.machine_fault.MachineFault.{MachineFault}
@@ -107,7 +107,7 @@ module _ {M S V R : Type 0} (m : maps.Ghosts M) (s : memories.Ghosts S) (v : rep
 
   -- a machine with another map and its processors handed back
   abbrev pub mapped : M → List Records → Machine M S V R
-  mapped y ps = record { map = y; memory = x.memory; v_rule = x.v_rule; r_rule = x.r_rule; processors = ps; count = x.count; held = x.held; accepted = x.accepted; setup = x.setup; number = x.number }
+  mapped y ps = record { map = y; memory = x.memory; rules = x.rules; processors = ps; count = x.count; held = x.held; accepted = x.accepted; setup = x.setup; number = x.number }
 
   pub look_few : i < most_processors
   look_few = let a = A.cpu in let b = A.ready.few in omega arith

@@ -9,6 +9,7 @@ use Rattle.faults.specs.declared.machine_fault.MachineFault.{MachineFault}
 use Rattle.faults.specs.declared.machine_fault.MachineFault.TheVariants.{NoPlace, NoProcessor}
 use Rattle.faults.specs.MachineFaults.{fault_number}
 use Rattle.rules.specs.Basic.{pick}
+use Rattle.rules.specs.Sizes.{most_processors}
 use Rattle.rules.specs.Rule.{Lawful}
 use Rattle.rules.specs.Calls.{Board, Step, nothing, or_else, or_next, told}
 use Rattle.rules.specs.History.{History, Setup}
@@ -33,24 +34,6 @@ counts_none n i l = ap {B = ℕ} (λ (t : Bool). pick t 4 0) (le-leb n i l)
 
 pub counts_one : (n i : ℕ) → i < n → ◌≡◌ {A = ℕ} (pick (leb n i) 4 0) 0
 counts_one n i l = ap {B = ℕ} (λ (t : Bool). pick t 4 0) (lt-leb n i l)
-
--- and a place of a table with so many sets and ways
-module _ (sets ways n i s w : ℕ) where
-  abbrev number : ℕ
-  number = or_else (leb n i) 4 (pick (leb sets s || leb ways w) 14 0)
-
-  pub place_none : n ≤ i → number ≡ 4
-  place_none l = ap (λ (t : Bool). or_else t 4 (pick (leb sets s || leb ways w) 14 0)) (le-leb n i l)
-
-  pub place_outside : i < n → (sets ≤ s) ⊎ ((s < sets) × (ways ≤ w)) → number ≡ 14
-  place_outside l o = λ j. or_else (lt-leb n i l j) 4 (pick (outside o j) 14 0)
-    where
-      outside : (sets ≤ s) ⊎ ((s < sets) × (ways ≤ w)) → (leb sets s || leb ways w) ≡ true
-      outside (inl k) = or_left (leb sets s) (leb ways w) (le-leb sets s k)
-      outside (inr k) = or_right (leb sets s) (leb ways w) (le-leb ways w k.1)
-
-  pub place_inside : i < n → s < sets → w < ways → number ≡ 0
-  place_inside l ls lw = λ j. or_else (lt-leb n i l j) 4 (pick (lt-leb sets s ls j || lt-leb ways w lw j) 14 0)
 
 module _ {M S V R : Type 0} (m : maps.Ghosts M) (s : memories.Ghosts S) (v : replacements.Ghosts V) (u : replacements.Ghosts R)
     (x : Machine M S V R) (lv : Lawful (rules_of m s v u x).for_v) (lr : Lawful (rules_of m s v u x).for_r) (p : ProcessorNumber) {A B : Type 0} (f : A → B) (value : B) (call : Call) (rest : ℕ)
@@ -83,8 +66,12 @@ module _ {M S V R : Type 0} (m : maps.Ghosts M) (s : memories.Ghosts S) (v : rep
         does (Err e) (λ w h P.
         refuses w h P e 4 (er (k.above (few m s v u x lv lr w h P (setup_passes m s v u x P.sound (sym a))))) (ap fault_number k.fault) k.fault)
 
-    pub reading_no_place : rest ≡ 14 → Performs m s v u call x x (T (Err (NoPlace p)))
-    reading_no_place er = does (Err (NoPlace p)) (λ w h P. refuses w h P (NoPlace p) 14 er refl refl)
-
     pub reading_tells : rest ≡ 0 → (y : A) → f y ≡ value → Performs m s v u call x x (T (Ok y))
     reading_tells er y e = does (Ok y) (λ w h P. ((λ j. or_next (setup_passes m s v u x P.sound (sym a) j) rest) ∙ er, e))
+
+  -- a call whose fault and number are known
+  pub reading_refused : (e : MachineFault) → ((setup_told x.setup ≡ 0 → x.count ≤ most_processors) → (fault_number e ≡ n) × (e ≡ reading_fault p n)) → Performs m s v u call x x (T (Err e))
+  reading_refused e k = does (Err e) (λ w h P. let q = k (few m s v u x lv lr w h P) in record { number = q.0; fault = q.1 })
+
+  pub reading_told : n ≡ 0 → (y : A) → f y ≡ value → Performs m s v u call x x (T (Ok y))
+  reading_told en y e = does (Ok y) (λ w h P. (en, e))

@@ -1,9 +1,10 @@
 -- A whole reference: the first checks, then a hit or a miss.
-use Rattle.std.proofs.Common.{◌≡◌, ℕ, zero, suc, ◌<◌, ◌≤◌, Bool, true, false, cond, ltb, leb, List, Some, None, Err, Option, Result, sym, refl, ap, ◌∙◌, subst, arith}
+use Rattle.std.proofs.Common.{◌≡◌, ℕ, zero, suc, ◌<◌, ◌≤◌, Bool, true, false, cond, ltb, leb, List, Some, None, Ok, Err, Option, Result, if◌then◌else◌, sym, refl, ap, ◌∙◌, subst, arith}
 use Rattle.std.proofs.lemmas.Bool.{le-leb, lt-leb, ltb-false, ltb-true}
 use Rattle.base.specs.Sizes.{addresses}
-use Rattle.base.specs.Blocks.{address_of, block_of, page_of}
+use Rattle.base.specs.Blocks.{addressed, block_of, page_of}
 use Rattle.base.specs.declared.block.Address.{Address}
+use Rattle.base.specs.declared.block.NoAddress.{NoAddress as NoAddressError}
 use Rattle.memory.specs.declared.memory.Memory as memories
 use Rattle.paging.specs.declared.map.Map as maps
 use Rattle.replacement.specs.declared.rule.Rule as replacements
@@ -33,25 +34,19 @@ refer_is zero rs st r = refl
 refer_is (suc n) rs st r = refl
 
 -- an address, or none
-pub no_address : (a : ℕ) → address_of a ≡ None → addresses ≤ a
-no_address a e = go (ltb a addresses) refl
+pub no_address : (a : ℕ) (e : NoAddressError) → addressed a ≡ Err e → addresses ≤ a
+no_address a e q = go (ltb a addresses) refl q
   where
-    go : (t : Bool) → ltb a addresses ≡ t → addresses ≤ a
-    go true q = let k : Some (record { 0 = a }) ≡ None = sym (ap (λ t. cond t (Some (record { 0 = a })) None) q) ∙ e in let z : ◌≡◌ {A = ℕ} 0 1 = cc in absurd (omega arith)
-    go false q = ltb-false a addresses q
+    go : (t : Bool) → ltb a addresses ≡ t → ◌≡◌ {A = Result Address NoAddressError} (if t then Ok (record { 0 = a }) else Err (record { 0 = a })) (Err e) → addresses ≤ a
+    go true et k = let z : ◌≡◌ {A = ℕ} 0 1 = cc in absurd (omega arith)
+    go false et k = ltb-false a addresses et
 
-pub an_address : (a : ℕ) (b : Address) → address_of a ≡ Some b → (b.0 ≡ a) × (a < addresses)
-an_address a b e = go (ltb a addresses) refl
+pub an_address : (a : ℕ) (b : Address) → addressed a ≡ Ok b → (b.0 ≡ a) × (a < addresses)
+an_address a b q = go (ltb a addresses) refl q
   where
-    go : (t : Bool) → ltb a addresses ≡ t → (b.0 ≡ a) × (a < addresses)
-    go true q =
-        let k : ◌≡◌ {A = Option Address} (Some (record { 0 = a })) (Some b) = sym (ap (λ t. cond t (Some (record { 0 = a })) None) q) ∙ e in
-        let kb : ◌≡◌ {A = Address} (record { 0 = a }) b = cc in
-        (sym (ap (λ (z : Address). z.0) kb), ltb-true a addresses q)
-    go false q =
-        let k : ◌≡◌ {A = Option Address} None (Some b) = sym (ap (λ t. cond t (Some (record { 0 = a })) None) q) ∙ e in
-        let z : ◌≡◌ {A = ℕ} 0 1 = cc in
-        absurd (omega arith)
+    go : (t : Bool) → ltb a addresses ≡ t → ◌≡◌ {A = Result Address NoAddressError} (if t then Ok (record { 0 = a }) else Err (record { 0 = a })) (Ok b) → (b.0 ≡ a) × (a < addresses)
+    go true et k = let kb : ◌≡◌ {A = Address} (record { 0 = a }) b = cc in (sym (ap (λ (z : Address). z.0) kb), ltb-true a addresses et)
+    go false et k = let z : ◌≡◌ {A = ℕ} 0 1 = cc in absurd (omega arith)
 
 module _ {M S V R : Type 0} (m : maps.Ghosts M) (s : memories.Ghosts S) (v : replacements.Ghosts V) (u : replacements.Ghosts R)
     (x : Machine M S V R) (p : ProcessorNumber) (a : ℕ) (w : Option ℕ) where

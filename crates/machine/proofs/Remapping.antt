@@ -1,5 +1,5 @@
 -- A change of the map.
-use Rattle.std.proofs.Common.{◌≡◌, ℕ, zero, suc, ◌+◌, ◌-◌, ◌^◌, min, Bool, true, false, cond, not, ◌&&◌, ◌||◌, eqb, ltb, leb, List, map, Ok, Err, Option, Result, sym, refl, ap, ◌∙◌, subst, arith}
+use Rattle.std.proofs.Common.{◌≡◌, ℕ, zero, suc, ◌+◌, ◌-◌, ◌^◌, ◌<◌, Bool, true, false, cond, not, ◌&&◌, ◌||◌, eqb, ltb, leb, List, map, Ok, Err, Option, Result, sym, refl, ap, ◌∙◌, subst, arith}
 use Rattle.std.proofs.lemmas.Bool.{le-leb, lt-leb, ltb-false, ltb-true}
 use Rattle.base.specs.Sizes.{frames, pages, processes}
 use Rattle.base.specs.declared.block.Page.{Page}
@@ -13,7 +13,6 @@ use Rattle.faults.specs.declared.machine_fault.Caller.{Caller}
 use Rattle.faults.specs.declared.machine_fault.Caller.TheVariants.{Nobody}
 use Rattle.faults.specs.declared.machine_fault.MachineFault.{MachineFault}
 use Rattle.faults.specs.declared.machine_fault.MachineFault.TheVariants.{Map}
-use Rattle.faults.specs.Beside.{besides}
 use Rattle.faults.specs.MachineFaults.{fault_number}
 use Rattle.tables.specs.declared.types.Processor.{Processor}
 use Rattle.rules.specs.Basic.{both, pick}
@@ -27,6 +26,7 @@ use Rattle.machine.specs.Refusals.{Tells, remap_fault}
 use Rattle.machine.specs.State.{Does, HasPast, Performs, board, rules_of}
 use Rattle.machine.specs.declared.machine.Machine.{Machine}
 use Rattle.machine.proofs.Accepting.{accepts}
+use Rattle.machine.proofs.Besides.{besides}
 use Rattle.machine.proofs.Admitting.{admit_passes, admit_stops}
 use Rattle.machine.proofs.Ends.{one_more, stops}
 use Rattle.machine.proofs.Lawful.{performs}
@@ -73,7 +73,7 @@ one_entry t q g o = λ j a b. same (eqb a q) (eqb b g) (t a b) j
 module _ {M S V R : Type 0} (m : maps.Ghosts M) (s : memories.Ghosts S) (v : replacements.Ghosts V) (u : replacements.Ghosts R) where
   -- a machine with another map, other processors and accepted calls
   abbrev pub with_map : Machine M S V R → M → List Processor → ℕ → Machine M S V R
-  with_map x y ps n = record { map = y; memory = x.memory; v_rule = x.v_rule; r_rule = x.r_rule; processors = ps; count = x.count; held = x.held; accepted = n; setup = x.setup; number = x.number }
+  with_map x y ps n = record { map = y; memory = x.memory; rules = x.rules; processors = ps; count = x.count; held = x.held; accepted = n; setup = x.setup; number = x.number }
 
   -- what a call of the map promises that changes the entry of process q and page g to o, where ok holds
   pub record Changes (x y : M) (q : ℕ) (g : Page) (o : Option ℕ) (ok : Bool) (r : Result (Unit {0}) MapFault) : Type 0 where
@@ -126,7 +126,7 @@ module _ {M S V R : Type 0} (m : maps.Ghosts M) (s : memories.Ghosts S) (v : rep
               (λ j. record { procs = st.procs; cpus = st.cpus; mem = st.mem; count = st.count; table = table j; held = st.held; accepted = st.accepted; setup = st.setup; number = st.number })
               (λ j. or_next (O.full j) (pick ((range ∙ ap not et) j) 9 0)) fault (ap fault_number fault)
 
-      pub remap_ends : (ps : List Processor) (n : ℕ) → Ok tt ≡ besides r Nobody → ps ≡ map (swap_pages q g.0) x.processors → n ≡ min (x.accepted + 1) (2 ^ 32 - 1)
+      pub remap_ends : (ps : List Processor) (n : ℕ) → Ok tt ≡ besides r Nobody → ps ≡ map (swap_pages q g.0) x.processors → (x.accepted < 2 ^ 32 - 1 → n ≡ x.accepted + 1)
           → Performs m s v u call x (with_map x y ps n) (T (Ok tt))
       remap_ends ps n b ep en = does (with_map x y ps n) (Ok tt) (λ w h P. go w h P ok refl)
         where

@@ -1,5 +1,5 @@
 -- A switch of a processor's process.
-use Rattle.std.proofs.Common.{◌≡◌, ℕ, zero, suc, ◌+◌, ◌-◌, ◌^◌, ◌<◌, ◌≤◌, min, eqb, leb, set, Ok, Err, Result, sym, refl, ap, ◌∙◌, subst}
+use Rattle.std.proofs.Common.{◌≡◌, ℕ, zero, suc, ◌+◌, ◌-◌, ◌^◌, ◌<◌, ◌≤◌, eqb, leb, set, Ok, Err, Result, sym, refl, ap, ◌∙◌, subst}
 use Rattle.std.proofs.lemmas.Bool.{le-leb, lt-leb}
 use Rattle.base.specs.Sizes.{processes}
 use Rattle.memory.specs.declared.memory.Memory as memories
@@ -25,11 +25,18 @@ use Rattle.machine.specs.State.{Does, HasPast, Performs, board, rules_of}
 use Rattle.machine.specs.declared.machine.Machine.{Machine}
 use Rattle.machine.proofs.Accepting.{accepts, few}
 use Rattle.machine.proofs.Admitting.{admit_passes, admit_stops}
+use Rattle.machine.proofs.Choosing.{Chooses, lawful}
 use Rattle.machine.proofs.Ends.{one_more, stops, with}
 use Rattle.machine.proofs.Lawful.{performs}
 
-module _ {M S V R : Type 0} (m : maps.Ghosts M) (s : memories.Ghosts S) (v : replacements.Ghosts V) (u : replacements.Ghosts R)
-    (x : Machine M S V R) (lv : Lawful (rules_of m s v u x).for_v) (lr : Lawful (rules_of m s v u x).for_r) (p : ProcessorNumber) (q : ℕ) where
+module _ {M S V R : Type 0} (m : maps.Ghosts M) (s : memories.Ghosts S) (v : replacements.Ghosts V) (u : replacements.Ghosts R) (cv : Chooses v) (cu : Chooses u)
+    (x : Machine M S V R) (p : ProcessorNumber) (q : ℕ) where
+  lv : Lawful (rules_of m s v u x).for_v
+  lv = lawful v cv x.rules.v
+
+  lr : Lawful (rules_of m s v u x).for_r
+  lr = lawful u cu x.rules.r
+
   abbrev st : Board
   st = board m s v u x
 
@@ -67,7 +74,7 @@ module _ {M S V R : Type 0} (m : maps.Ghosts M) (s : memories.Ghosts S) (v : rep
           stops m s v u (switch_fault p) x {A = Unit {0}} (λ _. nothing) x 8 _ done (NoProcess p) P.sound refl refl
           (λ j. or_next (O.full j) (or_else (lt-leb x.count p.0 l.below j) 4 (pick (le-leb processes q k j) 9 0))) refl refl)
 
-      pub switch_ends : q < processes → (c : Processor) (n : ℕ) → c ≡ swap_all (proc_at x.processors i) q → n ≡ min (x.accepted + 1) (2 ^ 32 - 1)
+      pub switch_ends : q < processes → (c : Processor) (n : ℕ) → c ≡ swap_all (proc_at x.processors i) q → (x.accepted < 2 ^ 32 - 1 → n ≡ x.accepted + 1)
           → Performs m s v u (switching p.0 q) x (with m s v u x x.memory (set x.processors i c) n) (T (Ok tt))
       switch_ends k c n ec en =
           does (with m s v u x x.memory (set x.processors i c) n) (Ok tt) (λ w h P.

@@ -57,7 +57,7 @@ module _ {M S V R : Type 0} (m : maps.Ghosts M) (s : memories.Ghosts S) (v : rep
 
   -- the machine with the bus held or not
   abbrev pub holding : Bool → Machine M S V R
-  holding h = record { map = x.map; memory = x.memory; v_rule = x.v_rule; r_rule = x.r_rule; processors = x.processors; count = x.count; held = h; accepted = x.accepted; setup = x.setup; number = x.number }
+  holding h = record { map = x.map; memory = x.memory; rules = x.rules; processors = x.processors; count = x.count; held = h; accepted = x.accepted; setup = x.setup; number = x.number }
 
   pub take_unset : (e : MachineFault) → set_up x.setup ≡ Err e → Does m s v u x x (Takes x.number (Err e)) (take st)
   take_unset e h =

@@ -16,7 +16,7 @@ use Rattle.bus.specs.Passes.{Shares, Snoopable, blocks_of, passed_of, start_of}
 use Rattle.bus.specs.declared.pass.Shared.{Shared}
 use Rattle.bus.proofs.Blocks.{block_held, same_blocks, written_blocks}
 use Rattle.rules.specs.Rule.{Lawful}
-use Rattle.rules.specs.Bus.{Passed, device, message, no_data, put_block, read_pass, take_pass}
+use Rattle.rules.specs.Bus.{Passed, device, from_device, message, no_data, put_block, read_pass, take_pass}
 use Rattle.rules.specs.Calls.{Board, Step, counted, device_read, device_read_by, device_write, device_write_by, with_mem, with_procs}
 use Rattle.rules.specs.History.{History, Setup}
 use Rattle.rules.specs.Ready.{Ready}
@@ -77,7 +77,7 @@ module _ {M S V R : Type 0} (m : maps.Ghosts M) (s : memories.Ghosts S) (v : rep
 
       pub read_ends : (qs : List Processor) (z z' : S) (r : Shared) (read : List ℕ) (n : ℕ) → Shares s y.count device b.0 y.processors qs y.memory z r
           → s.sound z' → s.count z' ≡ s.count z → s.holds z' ≡ s.holds z → reading (s.count z) (s.holds z) b ≡ Ok read → n ≡ y.accepted + 1
-          → Does m s v u x (with m s v u y z' qs n) (DeviceReads b ws read (Ok (message DeviceRead device r.supplier b.0))) (device_read (board m s v u x) t b.0 (length ws))
+          → Does m s v u x (with m s v u y z' qs n) (DeviceReads b ws read (Ok (message DeviceRead from_device r.supplier b.0))) (device_read (board m s v u x) t b.0 (length ws))
       read_ends qs z z' r read n sh so ec eh er en =
           let st = board m s v u y in
           let q = read_pass st.cpus device b.0 (start_of s y.processors y.memory) in
@@ -89,18 +89,18 @@ module _ {M S V R : Type 0} (m : maps.Ghosts M) (s : memories.Ghosts S) (v : rep
           let step : device_read_by 0 st b.0 ≡ device_read (board m s v u x) t b.0 (length ws) = λ j. device_read_by (sym F.number j) (F.alike.board j) b.0 in
           let after : board m s v u (with m s v u y z' qs n) ≡ counted (with_mem (with_procs st q.procs) q.mem) =
           λ j. record { procs = (pass j).procs; cpus = st.cpus; mem = mem j; count = size j; table = st.table; held = st.held; accepted = en j; setup = st.setup; number = st.number } in
-          let answer : read_answer read (message DeviceRead device r.supplier b.0) ≡ read_answer (q.mem b.0) (message DeviceRead device q.supplier b.0) =
-          λ j. read_answer (words j) (message DeviceRead device (pass j).supplier b.0) in
+          let answer : read_answer read (message DeviceRead from_device r.supplier b.0) ≡ read_answer (q.mem b.0) (message DeviceRead from_device q.supplier b.0) =
+          λ j. read_answer (words j) (message DeviceRead from_device (pass j).supplier b.0) in
           record {
             sound = record { map = F.alike.sound.map; memory = so };
             rules = F.alike.rules;
             after = after ∙ ap (λ (w : Step). w.after) step;
-            told = subst (λ (w : Step). Accepts w (read_answer read (message DeviceRead device r.supplier b.0))) step (record { number = refl; answer = answer });
+            told = subst (λ (w : Step). Accepts w (read_answer read (message DeviceRead from_device r.supplier b.0))) step (record { number = refl; answer = answer });
           }
 
       pub write_ends : (qs : List Processor) (z : S) (four : List ℕ) (n : ℕ) → qs ≡ take_pass y.count device b.0 y.processors
           → s.sound z → s.count z ≡ s.count y.memory → s.holds z ≡ written (s.count y.memory) (s.holds y.memory) b four → four ≡ ws → n ≡ y.accepted + 1
-          → Does m s v u x (with m s v u y z qs n) (DeviceWrites b (Ok (message DeviceWrite device no_data b.0))) (device_write (board m s v u x) t b.0 ws)
+          → Does m s v u x (with m s v u y z qs n) (DeviceWrites b (Ok (message DeviceWrite from_device no_data b.0))) (device_write (board m s v u x) t b.0 ws)
       write_ends qs z four n eq so ec eh ew en =
           let st = board m s v u y in
           let mem : blocks_of s z ≡ put_block st.mem b.0 ws = written_blocks s y.memory z b four F.below ec eh ∙ ap (put_block st.mem b.0) ew in
@@ -111,5 +111,5 @@ module _ {M S V R : Type 0} (m : maps.Ghosts M) (s : memories.Ghosts S) (v : rep
             sound = record { map = F.alike.sound.map; memory = so };
             rules = F.alike.rules;
             after = after ∙ ap (λ (w : Step). w.after) step;
-            told = subst (λ (w : Step). Accepts w (write_answer (message DeviceWrite device no_data b.0))) step (record { number = refl; answer = refl });
+            told = subst (λ (w : Step). Accepts w (write_answer (message DeviceWrite from_device no_data b.0))) step (record { number = refl; answer = refl });
           }

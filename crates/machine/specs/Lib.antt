@@ -5,5 +5,6 @@ pub mod References
 pub mod State
 pub mod Paths
 pub mod Readings
+pub mod Placing
 pub mod Transfers
 pub mod SetUp

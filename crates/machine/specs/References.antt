@@ -11,7 +11,7 @@ use Rattle.faults.specs.declared.machine_fault.MachineFault.{MachineFault}
 use Rattle.faults.specs.declared.machine_fault.MachineFault.TheVariants.{BusHeld}
 use Rattle.bus.specs.Passes.{blocks_of}
 use Rattle.rules.specs.Cache.{entry_at, put_entry, with_state}
-use Rattle.rules.specs.Bus.{Blocks, message, no_data, proc_at, put_block, take_pass}
+use Rattle.rules.specs.Bus.{Blocks, message, no_data, proc_at, put_block, take_pass, from_cpu}
 use Rattle.rules.specs.Calls.{Board, Ref, Step, bus_number, make_ref, needs_upgrade, nothing}
 use Rattle.machine.specs.Answers.{sent_list}
 use Rattle.machine.specs.declared.answer.Sent.{Sent}
@@ -35,7 +35,7 @@ upgraded true n ps i h k =
 
 abbrev pub upgrade_messages : Bool → List Processor → ℕ → ℕ → ℕ → List Message
 upgrade_messages false ps i h k = []
-upgrade_messages true ps i h k = message Invalidation i no_data (entry_at (proc_at ps i) h k).block.0 ∷ []
+upgrade_messages true ps i h k = message Invalidation (from_cpu i) no_data (entry_at (proc_at ps i) h k).block.0 ∷ []
 
 -- whether the entry at (h, k) must be upgraded
 abbrev pub must_upgrade : Option ℕ → List Processor → ℕ → ℕ → ℕ → Bool

@@ -24,7 +24,7 @@ module _ {M S V R : Type 0} (m : maps.Ghosts M) (s : memories.Ghosts S) (v : rep
   board x = record { procs = x.processors; cpus = x.count; mem = blocks_of s x.memory; count = s.count x.memory; table = m.frame x.map; held = x.held; accepted = x.accepted; setup = setup_told x.setup; number = x.number }
 
   abbrev pub rules_of : Machine M S V R → Rules
-  rules_of x = record { for_v = rule_of v x.v_rule; for_r = rule_of r x.r_rule }
+  rules_of x = record { for_v = rule_of v x.rules.v; for_r = rule_of r x.rules.r }
 
   -- the map and the memory keep what they were made with
   pub record Sound (x : Machine M S V R) : Type 0 where

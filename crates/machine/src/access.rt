@@ -12,13 +12,13 @@ use crate::claim::claim;
 use crate::fetched::{fetched_entry, miss_messages, write_back};
 use crate::machine::Machine;
 use crate::reference::Reference;
-use crate::table::{entry_at, line_at};
 use base::block::PhysicalBlock;
 use bus::pass::fetch;
+use caches::cell::{entry_at, home, line_at};
 use caches::choice::line_used;
+use caches::count::count_up;
 use caches::find::find_entry;
-use faults::beside::beside;
-use faults::machine_fault::{Caller, MachineFault};
+use faults::machine_fault::MachineFault;
 use lines::line::Level;
 use memory::memory::Memory;
 use paging::map::Map;
@@ -26,7 +26,7 @@ use processors::finish::finish;
 use replacement::rule::Rule;
 use steps::attach::attach;
 use steps::room::{install, make_room};
-use tables::types::{Place, R_SETS};
+use tables::types::Place;
 
 impl<M: Map, S: Memory, V: Rule, R: Rule> Machine<M, S, V, R> {
     // A valid line has the tag.
@@ -43,9 +43,9 @@ impl<M: Map, S: Memory, V: Rule, R: Rule> Machine<M, S, V, R> {
             r,
             home,
         )?;
-        line_used(&mut self.processors[cpu], &self.v_rule, line.set, line.way);
-        let word = finish(&mut self.processors, cpu, line, r.word(), r.value);
-        self.accepted = self.accepted.saturating_add(1);
+        line_used(&mut self.processors[cpu], &self.rules.v, line);
+        let word = finish(&mut self.processors[cpu], line, r.word(), r.value);
+        count_up(&mut self.accepted);
         Ok(Access {
             level: Level::VHit,
             word,
@@ -63,10 +63,7 @@ impl<M: Map, S: Memory, V: Rule, R: Rule> Machine<M, S, V, R> {
         ensures { Path M.Map S.Memory V.Rule R.Rule r self.old self.new result (Found (board M.Map S.Memory V.Rule R.Rule self.old) r block.0 × (r_find (proc_at self.old.processors r.processor.0) block.0 ≡ Some way)) (r_hit_step (rules_of M.Map S.Memory V.Rule R.Rule self.old) (board M.Map S.Memory V.Rule R.Rule self.old) r block.0 way) }
     {
         let cpu = r.cpu();
-        let home = Place {
-            set: usize::from(block) % R_SETS,
-            way,
-        };
+        let home = home(block, way);
         let child = entry_at(&self.processors[cpu], home).child;
         let sent = claim(
             &mut self.processors,
@@ -77,8 +74,7 @@ impl<M: Map, S: Memory, V: Rule, R: Rule> Machine<M, S, V, R> {
         )?;
         let found = attach(
             &mut self.processors[cpu],
-            &self.v_rule,
-            &self.r_rule,
+            &self.rules,
             child,
             r.block(),
             block,
@@ -88,8 +84,8 @@ impl<M: Map, S: Memory, V: Rule, R: Rule> Machine<M, S, V, R> {
             set: r.set(),
             way: found.way,
         };
-        let word = finish(&mut self.processors, cpu, line, r.word(), r.value);
-        self.accepted = self.accepted.saturating_add(1);
+        let word = finish(&mut self.processors[cpu], line, r.word(), r.value);
+        count_up(&mut self.accepted);
         Ok(Access {
             level: found.level,
             word,
@@ -106,17 +102,11 @@ impl<M: Map, S: Memory, V: Rule, R: Rule> Machine<M, S, V, R> {
         }
         let cpu = r.cpu();
         let tag = r.block();
-        let room = make_room(
-            &mut self.processors[cpu],
-            &self.v_rule,
-            &self.r_rule,
-            tag,
-            block,
-        );
+        let room = make_room(&mut self.processors[cpu], &self.rules, tag, block);
         write_back(&mut self.memory, &room.replaced);
         let exclusive = r.value.is_some();
         let count = self.count as usize;
-        let sender = r.processor.0;
+        let sender = r.sender();
         let shared = fetch(
             &mut self.processors,
             &mut self.memory,
@@ -125,27 +115,26 @@ impl<M: Map, S: Memory, V: Rule, R: Rule> Machine<M, S, V, R> {
             block,
             exclusive,
         );
-        let words = beside(self.memory.read(block), Caller::Processor(r.processor))?;
+        let words = self
+            .memory
+            .read(block)
+            .map_err(|fault| (fault, r.caller()))?;
         let entry = fetched_entry(block, words, exclusive, shared.acked);
         let line = Place {
             set: r.set(),
             way: room.line_way,
         };
-        let home = Place {
-            set: usize::from(block) % R_SETS,
-            way: room.entry_way,
-        };
+        let home = home(block, room.entry_way);
         install(
             &mut self.processors[cpu],
-            &self.v_rule,
-            &self.r_rule,
+            &self.rules,
             line,
             home,
             tag,
             entry,
         );
-        let word = finish(&mut self.processors, cpu, line, r.word(), r.value);
-        self.accepted = self.accepted.saturating_add(1);
+        let word = finish(&mut self.processors[cpu], line, r.word(), r.value);
+        count_up(&mut self.accepted);
         Ok(Access {
             level: Level::Miss,
             word,
@@ -165,10 +154,10 @@ impl<M: Map, S: Memory, V: Rule, R: Rule> Machine<M, S, V, R> {
     {
         let cpu = r.cpu();
         let process = self.processors[cpu].process;
-        let block = beside(
-            self.map.look_up(process, r.block()),
-            Caller::Processor(r.processor),
-        )?;
+        let block = self
+            .map
+            .look_up(process, r.block())
+            .map_err(|fault| (fault, r.caller()))?;
         if u16::from(block) >= self.memory.count_blocks() {
             return Err(MachineFault::BeyondMemory(r.processor));
         }

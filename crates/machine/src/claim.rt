@@ -6,11 +6,11 @@ ghost use Rattle.rules.specs.Sizes.{most_processors, r_sets, r_ways};
 
 use crate::answer::Sent;
 use crate::reference::Reference;
-use crate::table::entry_at;
 use bus::pass::invalidate;
+use caches::cell::entry_at;
 use faults::machine_fault::MachineFault;
 use processors::claim::{make_private, needs_upgrade};
-use tables::message::{Message, MessageKind, NO_DATA};
+use tables::message::{Message, MessageKind, Supplier};
 use tables::types::{Place, Processors};
 
 // A write that finds the entry at `home` shared sends an invalidation, and the entry becomes private; it is refused where
@@ -31,12 +31,12 @@ pub(crate) fn claim(
     if held {
         return Err(MachineFault::BusHeld(r.processor));
     }
-    invalidate(processors, count, r.processor.0, entry.block);
-    make_private(processors, r.cpu(), home);
+    invalidate(processors, count, r.sender(), entry.block);
+    make_private(&mut processors[r.cpu()], home);
     Ok(Sent::One(Message {
         kind: MessageKind::Invalidation,
-        sender: r.processor.0,
-        supplier: NO_DATA,
+        sender: r.sender(),
+        supplier: Supplier::NoData,
         block: entry.block,
     }))
 }

@@ -10,12 +10,12 @@ use crate::tenure::Tenure;
 use base::block::PhysicalBlock;
 use base::size::BLOCK_WORDS;
 use bus::pass::{invalidate, share};
-use faults::beside::beside;
+use caches::count::count_up;
 use faults::machine_fault::{Caller, MachineFault};
 use memory::memory::Memory;
 use paging::map::Map;
 use replacement::rule::Rule;
-use tables::message::{DEVICE, Message, MessageKind, NO_DATA};
+use tables::message::{Message, MessageKind, Sender, Supplier};
 
 impl<M, S, V, R> Machine<M, S, V, R> {
     // Whether the bus is held, and under this tenure's number.
@@ -97,7 +97,9 @@ impl<M: Map, S: Memory, V: Rule, R: Rule> Machine<M, S, V, R> {
     {
         self.admit(Caller::Device)?;
         self.check_tenure(tenure)?;
-        let _ = beside(self.memory.read(block), Caller::Device)?;
+        self.memory
+            .read(block)
+            .map_err(|fault| (fault, Caller::Device))?;
         if size != BLOCK_WORDS {
             return Err(MachineFault::SliceLength);
         }
@@ -119,13 +121,22 @@ impl<M: Map, S: Memory, V: Rule, R: Rule> Machine<M, S, V, R> {
     {
         self.check_transfer(tenure, block, words.len())?;
         let count = self.count as usize;
-        let shared = share(&mut self.processors, &mut self.memory, count, DEVICE, block);
-        let read = beside(self.memory.read(block), Caller::Device)?;
+        let shared = share(
+            &mut self.processors,
+            &mut self.memory,
+            count,
+            Sender::Device,
+            block,
+        );
+        let read = self
+            .memory
+            .read(block)
+            .map_err(|fault| (fault, Caller::Device))?;
         words.copy_from_slice(&read);
-        self.accepted = self.accepted.saturating_add(1);
+        count_up(&mut self.accepted);
         Ok(Message {
             kind: MessageKind::DeviceRead,
-            sender: DEVICE,
+            sender: Sender::Device,
             supplier: shared.supplier,
             block,
         })
@@ -146,13 +157,20 @@ impl<M: Map, S: Memory, V: Rule, R: Rule> Machine<M, S, V, R> {
         self.check_transfer(tenure, block, words.len())?;
         let mut four = [0; BLOCK_WORDS];
         four.copy_from_slice(words);
-        invalidate(&mut self.processors, self.count as usize, DEVICE, block);
-        beside(self.memory.write(block, four), Caller::Device)?;
-        self.accepted = self.accepted.saturating_add(1);
+        invalidate(
+            &mut self.processors,
+            self.count as usize,
+            Sender::Device,
+            block,
+        );
+        self.memory
+            .write(block, four)
+            .map_err(|fault| (fault, Caller::Device))?;
+        count_up(&mut self.accepted);
         Ok(Message {
             kind: MessageKind::DeviceWrite,
-            sender: DEVICE,
-            supplier: NO_DATA,
+            sender: Sender::Device,
+            supplier: Supplier::NoData,
             block,
         })
     }

@@ -2,7 +2,7 @@
 ghost use Rattle.std.specs.Prelude.{◌≡◌, ℕ, ◌<◌, Bool, true, false, [], ◌∷◌, ◌++◌};
 ghost use Rattle.machine.specs.Answers.{sent_list};
 ghost use Rattle.machine.specs.References.{Backs};
-ghost use Rattle.rules.specs.Bus.{message};
+ghost use Rattle.rules.specs.Bus.{from_cpu, message};
 ghost use Rattle.rules.specs.Calls.{fetch_kind, fetch_state, write_back_sent};
 ghost use Rattle.tables.specs.declared.types.Child.TheVariants.{NoChild};
 
@@ -10,7 +10,7 @@ use crate::answer::Sent;
 use base::block::{PhysicalBlock, Words};
 use memory::memory::Memory;
 use records::record::ProcessorNumber;
-use tables::message::{Message, MessageKind};
+use tables::message::{Message, MessageKind, Sender, Supplier};
 use tables::types::{Child, EntryState, REntry};
 
 // An entry that went is written back where it is newer than memory.
@@ -54,11 +54,11 @@ pub(crate) fn fetched_entry(
 // The message of a fetch.
 fn fetch_message(
     sender: ProcessorNumber,
-    supplier: u8,
+    supplier: Supplier,
     block: PhysicalBlock,
     exclusive: bool,
 ) -> Message
-    ensures { result ≡ message (fetch_kind exclusive) sender.0 supplier block.0 }
+    ensures { result ≡ message (fetch_kind exclusive) (from_cpu sender.0) supplier block.0 }
 {
     let kind = if exclusive {
         MessageKind::ReadModifyWrite
@@ -67,7 +67,7 @@ fn fetch_message(
     };
     Message {
         kind,
-        sender: sender.0,
+        sender: Sender::Cpu(sender),
         supplier,
         block,
     }
@@ -77,18 +77,18 @@ fn fetch_message(
 pub(crate) fn miss_messages(
     sender: ProcessorNumber,
     replaced: &REntry,
-    supplier: u8,
+    supplier: Supplier,
     block: PhysicalBlock,
     exclusive: bool,
 ) -> Sent
-    ensures { sent_list result ≡ write_back_sent replaced.now.rdirty sender.0 replaced.now ++ (message (fetch_kind exclusive) sender.0 supplier block.0 ∷ []) }
+    ensures { sent_list result ≡ write_back_sent replaced.now.rdirty sender.0 replaced.now ++ (message (fetch_kind exclusive) (from_cpu sender.0) supplier block.0 ∷ []) }
 {
     let fetch = fetch_message(sender, supplier, block, exclusive);
     if replaced.rdirty {
         let back = Message {
             kind: MessageKind::WriteBack,
-            sender: sender.0,
-            supplier: sender.0,
+            sender: Sender::Cpu(sender),
+            supplier: Supplier::Holder(sender),
             block: replaced.block,
         };
         Sent::Two(back, fetch)

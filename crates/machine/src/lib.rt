@@ -13,6 +13,5 @@ mod read_write;
 mod reading;
 mod reference;
 mod set_up;
-mod table;
 pub mod tally;
 pub mod tenure;

@@ -7,8 +7,8 @@ ghost use Rattle.rules.specs.Run.{entering, erasing, switching};
 use crate::machine::Machine;
 use base::block::{Frame, Page, Process};
 use base::size::PROCESSES;
+use caches::count::count_up;
 use caches::swap::swap_lines;
-use faults::beside::beside;
 use faults::machine_fault::{Caller, MachineFault};
 use memory::memory::Memory;
 use paging::map::{ChangeableMap, Map};
@@ -31,7 +31,7 @@ impl<M: Map, S: Memory, V: Rule, R: Rule> Machine<M, S, V, R> {
             return Err(MachineFault::NoProcess(processor));
         }
         swap_lines(&mut self.processors[cpu], process);
-        self.accepted = self.accepted.saturating_add(1);
+        count_up(&mut self.accepted);
         Ok(())
     }
 }
@@ -42,9 +42,11 @@ impl<M: ChangeableMap, S: Memory, V: Rule, R: Rule> Machine<M, S, V, R> {
         ensures { Performs M.Map S.Memory V.Rule R.Rule (entering process.0 page.0 frame.0) self.old self.new (Tells (λ _. nothing) (remap_fault page) result) }
     {
         self.admit(Caller::Nobody)?;
-        beside(self.map.enter(process, page, frame), Caller::Nobody)?;
+        self.map
+            .enter(process, page, frame)
+            .map_err(|fault| (fault, Caller::Nobody))?;
         swap_pages(&mut self.processors, process, page);
-        self.accepted = self.accepted.saturating_add(1);
+        count_up(&mut self.accepted);
         Ok(())
     }
 
@@ -53,9 +55,11 @@ impl<M: ChangeableMap, S: Memory, V: Rule, R: Rule> Machine<M, S, V, R> {
         ensures { Performs M.Map S.Memory V.Rule R.Rule (erasing process.0 page.0) self.old self.new (Tells (λ _. nothing) (remap_fault page) result) }
     {
         self.admit(Caller::Nobody)?;
-        beside(self.map.erase(process, page), Caller::Nobody)?;
+        self.map
+            .erase(process, page)
+            .map_err(|fault| (fault, Caller::Nobody))?;
         swap_pages(&mut self.processors, process, page);
-        self.accepted = self.accepted.saturating_add(1);
+        count_up(&mut self.accepted);
         Ok(())
     }
 }

@@ -6,8 +6,8 @@ ghost use Rattle.rules.specs.Calls.{counts_told, entry_told, line_told};
 ghost use Rattle.rules.specs.Run.{counts_reading, entry_reading, line_reading};
 
 use crate::machine::Machine;
-use crate::table::{entry_at, line_at};
 use crate::tally::Tally;
+use caches::cell::{entry_at, line_at};
 use faults::machine_fault::MachineFault;
 use memory::memory::Memory;
 use paging::map::Map;
@@ -26,12 +26,9 @@ impl<M: Map, S: Memory, V: Rule, R: Rule> Machine<M, S, V, R> {
     ) -> Result<VLine, MachineFault>
         ensures { Performs M.Map S.Memory V.Rule R.Rule (line_reading processor.0 set way) self.now self.now (Reads (λ (l : VLine). l) (line_told (board M.Map S.Memory V.Rule R.Rule self.now) processor.0 set way) (reading_fault processor) result) }
     {
-        self.is_set_up()?;
-        let cpu = self.locate(processor)?;
-        if set >= V_SETS || way >= V_WAYS {
-            return Err(MachineFault::NoPlace(processor));
-        }
-        Ok(line_at(&self.processors[cpu], Place { set, way }))
+        let at = Place { set, way };
+        let cpu = self.locate_place(processor, at, V_SETS, V_WAYS)?;
+        Ok(line_at(&self.processors[cpu], at))
     }
 
     // An entry of the R-cache.
@@ -43,12 +40,9 @@ impl<M: Map, S: Memory, V: Rule, R: Rule> Machine<M, S, V, R> {
     ) -> Result<REntry, MachineFault>
         ensures { Performs M.Map S.Memory V.Rule R.Rule (entry_reading processor.0 set way) self.now self.now (Reads (λ (e : REntry). e) (entry_told (board M.Map S.Memory V.Rule R.Rule self.now) processor.0 set way) (reading_fault processor) result) }
     {
-        self.is_set_up()?;
-        let cpu = self.locate(processor)?;
-        if set >= R_SETS || way >= R_WAYS {
-            return Err(MachineFault::NoPlace(processor));
-        }
-        Ok(entry_at(&self.processors[cpu], Place { set, way }))
+        let at = Place { set, way };
+        let cpu = self.locate_place(processor, at, R_SETS, R_WAYS)?;
+        Ok(entry_at(&self.processors[cpu], at))
     }
 
     // The counts of a processor.

@@ -13,6 +13,7 @@ use faults::machine_fault::{MachineFault, SetupFault};
 use memory::memory::Memory;
 use paging::map::Map;
 use processors::new::new_processors;
+use replacement::cache_rules::CacheRules;
 use replacement::rule::Rule;
 use tables::types::PROCESSORS;
 
@@ -51,16 +52,19 @@ impl<M: Map, S: Memory, V: Rule, R: Rule> Machine<M, S, V, R> {
         number: u8,
     ) -> Machine<M, S, V, R>
         ensures board { S.Memory.sound memory → board M.Map S.Memory V.Rule R.Rule result ≡ made (rules_of M.Map S.Memory V.Rule R.Rule result) processors number (blocks_of S.Memory memory) (S.Memory.count memory) (M.Map.frame map) }
-        ensures parts { (result.map ≡ map) × (result.memory ≡ memory) × (result.v_rule ≡ v_rule) × (result.r_rule ≡ r_rule) }
+        ensures parts { (result.map ≡ map) × (result.memory ≡ memory) × (result.rules.v ≡ v_rule) × (result.rules.r ≡ r_rule) }
         ensures past { M.Map.sound map → S.Memory.sound memory → HasPast M.Map S.Memory V.Rule R.Rule (record { table = M.Map.frame map; blocks = blocks_of S.Memory memory }) [] result }
     {
         let setup = setup_fault(processors, memory.count_blocks());
-        let records = new_processors(&v_rule, &r_rule);
+        let rules = CacheRules {
+            v: v_rule,
+            r: r_rule,
+        };
+        let records = new_processors(&rules);
         Machine {
             map,
             memory,
-            v_rule,
-            r_rule,
+            rules,
             processors: records,
             count: processors,
             held: false,
@@ -72,15 +76,17 @@ impl<M: Map, S: Memory, V: Rule, R: Rule> Machine<M, S, V, R> {
 
     // The map, the memory and the rules come back. What is newer in the caches is not written back.
     pub fn into_parts(self) -> Parts<M, S, V, R>
-        ensures parts { (result.map ≡ self.map) × (result.memory ≡ self.memory) × (result.v_rule ≡ self.v_rule) × (result.r_rule ≡ self.r_rule) }
+        ensures parts { (result.map ≡ self.map) × (result.memory ≡ self.memory) × (result.v_rule ≡ self.rules.v) × (result.r_rule ≡ self.rules.r) }
         ensures blocks { blocks_of S.Memory result.memory ≡ (board M.Map S.Memory V.Rule R.Rule self).mem }
         ensures frames { M.Map.frame result.map ≡ (board M.Map S.Memory V.Rule R.Rule self).table }
     {
         let Machine {
             map,
             memory,
-            v_rule,
-            r_rule,
+            rules: CacheRules {
+                v: v_rule,
+                r: r_rule,
+            },
             processors: _,
             count: _,
             held: _,

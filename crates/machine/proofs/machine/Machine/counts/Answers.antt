@@ -14,8 +14,8 @@ use Rattle.machine.proofs.machine.Machine.counts.Goals as goal
 pub returns-in_err-is_set_up : goal.returns-in_err-is_set_up
 returns-in_err-is_set_up g c =
     let x = c.args.self.now in
-    let lv : Lawful (rule_of g.V.Rule x.v_rule) = record { chosen = g.met.V.Rule.chosen x.v_rule } in
-    let lr : Lawful (rule_of g.R.Rule x.r_rule) = record { chosen = g.met.R.Rule.chosen x.r_rule } in
+    let lv : Lawful (rule_of g.V.Rule x.rules.v) = record { chosen = g.met.V.Rule.chosen x.rules.v } in
+    let lr : Lawful (rule_of g.R.Rule x.rules.r) = record { chosen = g.met.R.Rule.chosen x.rules.r } in
     let p = err_from_is_err_and c.from_residual.result c.from_residual.ensures.1 in
     rw (p.1, p.2)
     (reading_not_set_up g.M.Map g.S.Memory g.V.Rule g.R.Rule x lv lr c.args.processor tally_told (counts_told (board g.M.Map g.S.Memory g.V.Rule g.R.Rule x) c.args.processor.0) (counts_reading c.args.processor.0) _ refl c.in_err-is_set_up.field-0.0 c.in_err-is_set_up.ensures)
@@ -23,8 +23,8 @@ returns-in_err-is_set_up g c =
 pub returns-in_err-cpu : goal.returns-in_err-cpu
 returns-in_err-cpu g c =
     let x = c.args.self.now in
-    let lv : Lawful (rule_of g.V.Rule x.v_rule) = record { chosen = g.met.V.Rule.chosen x.v_rule } in
-    let lr : Lawful (rule_of g.R.Rule x.r_rule) = record { chosen = g.met.R.Rule.chosen x.r_rule } in
+    let lv : Lawful (rule_of g.V.Rule x.rules.v) = record { chosen = g.met.V.Rule.chosen x.rules.v } in
+    let lr : Lawful (rule_of g.R.Rule x.rules.r) = record { chosen = g.met.R.Rule.chosen x.rules.r } in
     let p = err_from_is_err_and c.from_residual-in_err-cpu.result c.from_residual-in_err-cpu.ensures.1 in
     rw (p.1, p.2)
     (reading_no_processor g.M.Map g.S.Memory g.V.Rule g.R.Rule x lv lr c.args.processor tally_told (counts_told (board g.M.Map g.S.Memory g.V.Rule g.R.Rule x) c.args.processor.0) (counts_reading c.args.processor.0) _ refl c.in_ok-is_set_up.ensures c.in_err-cpu.field-0.0 c.in_err-cpu.ensures
@@ -33,8 +33,8 @@ returns-in_err-cpu g c =
 pub returns : goal.returns
 returns g c =
     let x = c.args.self.now in
-    let lv : Lawful (rule_of g.V.Rule x.v_rule) = record { chosen = g.met.V.Rule.chosen x.v_rule } in
-    let lr : Lawful (rule_of g.R.Rule x.r_rule) = record { chosen = g.met.R.Rule.chosen x.r_rule } in
+    let lv : Lawful (rule_of g.V.Rule x.rules.v) = record { chosen = g.met.V.Rule.chosen x.rules.v } in
+    let lr : Lawful (rule_of g.R.Rule x.rules.r) = record { chosen = g.met.R.Rule.chosen x.rules.r } in
     let l = c.in_ok-cpu.ensures in
     reading_tells g.M.Map g.S.Memory g.V.Rule g.R.Rule x lv lr c.args.processor tally_told (counts_told (board g.M.Map g.S.Memory g.V.Rule g.R.Rule x) c.args.processor.0) (counts_reading c.args.processor.0) _ refl c.in_ok-is_set_up.ensures (counts_one x.count c.args.processor.0 l.below) _
     (λ j. record {

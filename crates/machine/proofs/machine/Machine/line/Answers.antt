@@ -9,44 +9,26 @@ use Rattle.rules.specs.Cache.{line_at}
 use Rattle.rules.specs.Calls.{line_told}
 use Rattle.rules.specs.Run.{line_reading}
 use Rattle.machine.specs.State.{board}
-use Rattle.machine.proofs.Readings.{place_inside, place_none, place_outside, reading_no_place, reading_no_processor, reading_not_set_up, reading_tells}
+use Rattle.machine.proofs.Readings.{reading_refused, reading_told}
 use Rattle.machine.proofs.machine.Machine.line.Goals as goal
 
-pub returns-in_err-is_set_up : goal.returns-in_err-is_set_up
-returns-in_err-is_set_up g c =
-    let x = c.args.self.now in
-    let lv : Lawful (rule_of g.V.Rule x.v_rule) = record { chosen = g.met.V.Rule.chosen x.v_rule } in
-    let lr : Lawful (rule_of g.R.Rule x.r_rule) = record { chosen = g.met.R.Rule.chosen x.r_rule } in
-    let p = err_from_is_err_and c.from_residual.result c.from_residual.ensures.1 in
-    rw (p.1, p.2)
-    (reading_not_set_up g.M.Map g.S.Memory g.V.Rule g.R.Rule x lv lr c.args.processor {A = VLine} (λ l. l) (line_told (board g.M.Map g.S.Memory g.V.Rule g.R.Rule x) c.args.processor.0 c.args.set c.args.way) (line_reading c.args.processor.0 c.args.set c.args.way) _ refl c.in_err-is_set_up.field-0.0 c.in_err-is_set_up.ensures)
-
 pub returns-in_err-cpu : goal.returns-in_err-cpu
+unfolding v_sets v_ways
 returns-in_err-cpu g c =
     let x = c.args.self.now in
-    let lv : Lawful (rule_of g.V.Rule x.v_rule) = record { chosen = g.met.V.Rule.chosen x.v_rule } in
-    let lr : Lawful (rule_of g.R.Rule x.r_rule) = record { chosen = g.met.R.Rule.chosen x.r_rule } in
-    let p = err_from_is_err_and c.from_residual-in_err-cpu.result c.from_residual-in_err-cpu.ensures.1 in
+    let lv : Lawful (rule_of g.V.Rule x.rules.v) = record { chosen = g.met.V.Rule.chosen x.rules.v } in
+    let lr : Lawful (rule_of g.R.Rule x.rules.r) = record { chosen = g.met.R.Rule.chosen x.rules.r } in
+    let p = err_from_is_err_and c.from_residual.result c.from_residual.ensures.1 in
     rw (p.1, p.2)
-    (reading_no_processor g.M.Map g.S.Memory g.V.Rule g.R.Rule x lv lr c.args.processor {A = VLine} (λ l. l) (line_told (board g.M.Map g.S.Memory g.V.Rule g.R.Rule x) c.args.processor.0 c.args.set c.args.way) (line_reading c.args.processor.0 c.args.set c.args.way) _ refl c.in_ok-is_set_up.ensures c.in_err-cpu.field-0.0 c.in_err-cpu.ensures
-    (place_none v_sets v_ways x.count c.args.processor.0 c.args.set c.args.way))
-
-pub returns-then-set-ge-V_SETS : goal.returns-then-set-ge-V_SETS
-unfolding v_sets v_ways
-returns-then-set-ge-V_SETS g c =
-    let x = c.args.self.now in
-    let lv : Lawful (rule_of g.V.Rule x.v_rule) = record { chosen = g.met.V.Rule.chosen x.v_rule } in
-    let lr : Lawful (rule_of g.R.Rule x.r_rule) = record { chosen = g.met.R.Rule.chosen x.r_rule } in
-    reading_no_place g.M.Map g.S.Memory g.V.Rule g.R.Rule x lv lr c.args.processor {A = VLine} (λ l. l) (line_told (board g.M.Map g.S.Memory g.V.Rule g.R.Rule x) c.args.processor.0 c.args.set c.args.way) (line_reading c.args.processor.0 c.args.set c.args.way) _ refl c.in_ok-is_set_up.ensures
-    (place_outside v_sets v_ways x.count c.args.processor.0 c.args.set c.args.way c.in_ok-cpu.ensures.below c.then-set-ge-V_SETS.either)
+    (reading_refused g.M.Map g.S.Memory g.V.Rule g.R.Rule x lv lr c.args.processor {A = VLine} (λ l. l) (line_told (board g.M.Map g.S.Memory g.V.Rule g.R.Rule x) c.args.processor.0 c.args.set c.args.way) (line_reading c.args.processor.0 c.args.set c.args.way) _ refl c.in_err-cpu.field-0.0
+    (λ few. let u = c.in_err-cpu.ensures few in (u.number, u.fault)))
 
 pub returns : goal.returns
 unfolding v_sets v_ways
 returns g c =
     let x = c.args.self.now in
-    let lv : Lawful (rule_of g.V.Rule x.v_rule) = record { chosen = g.met.V.Rule.chosen x.v_rule } in
-    let lr : Lawful (rule_of g.R.Rule x.r_rule) = record { chosen = g.met.R.Rule.chosen x.r_rule } in
+    let lv : Lawful (rule_of g.V.Rule x.rules.v) = record { chosen = g.met.V.Rule.chosen x.rules.v } in
+    let lr : Lawful (rule_of g.R.Rule x.rules.r) = record { chosen = g.met.R.Rule.chosen x.rules.r } in
     let l = c.in_ok-cpu.ensures in
-    reading_tells g.M.Map g.S.Memory g.V.Rule g.R.Rule x lv lr c.args.processor {A = VLine} (λ l. l) (line_told (board g.M.Map g.S.Memory g.V.Rule g.R.Rule x) c.args.processor.0 c.args.set c.args.way) (line_reading c.args.processor.0 c.args.set c.args.way) _ refl c.in_ok-is_set_up.ensures
-    (place_inside v_sets v_ways x.count c.args.processor.0 c.args.set c.args.way l.below c.if-set-ge-V_SETS.false c.if-way-ge-V_WAYS.false) c.line_at.result
-    (c.line_at.ensures c.if-set-ge-V_SETS.false c.if-way-ge-V_WAYS.false ∙ ap (λ (z : ℕ). line_at (proc_at x.processors z) c.args.set c.args.way) l.place)
+    reading_told g.M.Map g.S.Memory g.V.Rule g.R.Rule x lv lr c.args.processor {A = VLine} (λ l. l) (line_told (board g.M.Map g.S.Memory g.V.Rule g.R.Rule x) c.args.processor.0 c.args.set c.args.way) (line_reading c.args.processor.0 c.args.set c.args.way) _ refl l.number c.line_at.result
+    (c.line_at.ensures l.set l.way ∙ ap (λ (z : ℕ). line_at (proc_at x.processors z) c.args.set c.args.way) l.place)

@@ -14,7 +14,7 @@ returns-in_err-is_set_up g c =
     let p = err_from_is_err_and c.from_residual.result c.from_residual.ensures.1 in
     rw (p.1, p.2)
     (record {
-      call = performs g.M.Map g.S.Memory g.V.Rule g.R.Rule taking x x (Takes x.number (Err e)) (record { chosen = g.met.V.Rule.chosen x.v_rule }) (record { chosen = g.met.R.Rule.chosen x.r_rule })
+      call = performs g.M.Map g.S.Memory g.V.Rule g.R.Rule taking x x (Takes x.number (Err e)) (record { chosen = g.met.V.Rule.chosen x.rules.v }) (record { chosen = g.met.R.Rule.chosen x.rules.r })
           (λ u h H. take_unset g.M.Map g.S.Memory g.V.Rule g.R.Rule x H.sound e (sym c.in_err-is_set_up.ensures));
       live = tt;
       held = tt;
@@ -29,7 +29,7 @@ pub returns-then-self : goal.returns-then-self
 returns-then-self g c =
     let x = c.args.self.now in
     record {
-      call = performs g.M.Map g.S.Memory g.V.Rule g.R.Rule taking x x (Takes x.number (Err BusTaken)) (record { chosen = g.met.V.Rule.chosen x.v_rule }) (record { chosen = g.met.R.Rule.chosen x.r_rule })
+      call = performs g.M.Map g.S.Memory g.V.Rule g.R.Rule taking x x (Takes x.number (Err BusTaken)) (record { chosen = g.met.V.Rule.chosen x.rules.v }) (record { chosen = g.met.R.Rule.chosen x.rules.r })
           (λ u h H. take_held g.M.Map g.S.Memory g.V.Rule g.R.Rule x H.sound (sym c.in_ok-is_set_up.ensures) c.if-self.true);
       live = tt;
       held = tt;
@@ -44,7 +44,7 @@ pub returns : goal.returns
 returns g c =
     let x = c.args.self.now in
     record {
-      call = performs g.M.Map g.S.Memory g.V.Rule g.R.Rule taking x (record { map = x.map; memory = x.memory; v_rule = x.v_rule; r_rule = x.r_rule; processors = x.processors; count = x.count; held = true; accepted = x.accepted; setup = x.setup; number = x.number }) (Takes x.number (Ok (record { machine = x.number; live = true }))) (record { chosen = g.met.V.Rule.chosen x.v_rule }) (record { chosen = g.met.R.Rule.chosen x.r_rule })
+      call = performs g.M.Map g.S.Memory g.V.Rule g.R.Rule taking x (record { map = x.map; memory = x.memory; rules = x.rules; processors = x.processors; count = x.count; held = true; accepted = x.accepted; setup = x.setup; number = x.number }) (Takes x.number (Ok (record { machine = x.number; live = true }))) (record { chosen = g.met.V.Rule.chosen x.rules.v }) (record { chosen = g.met.R.Rule.chosen x.rules.r })
           (λ u h H. take_ends g.M.Map g.S.Memory g.V.Rule g.R.Rule x H.sound (sym c.in_ok-is_set_up.ensures) c.if-self.false);
       live = (refl, refl);
       held = refl;
