@@ -22,7 +22,8 @@ pub struct Frame(pub u8);
 #[derive(Clone, Copy, Debug, PartialEq, Eq)]
 pub struct Address(u16);
 
-// A block as a process names it.
+// A block as a process names it. This type and the next have the same conversions, and are not one type with a parameter:
+// a rule of the project wraps each in a struct of its own, so that only a map's look-up leads from one to the other.
 #[derive(Clone, Copy, Debug, PartialEq, Eq)]
 pub struct VirtualBlock(u16);
 

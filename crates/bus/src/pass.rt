@@ -12,6 +12,9 @@ use records::record::ProcessorNumber;
 use tables::message::{Sender, Supplier};
 use tables::types::{PROCESSORS, Processor, Processors, Snoop};
 
+// The two loops below skip the sender each for itself: one loop with a closure would write what the closure captures, and
+// then a proof knows nothing of what it wrote.
+
 // Every other processor, in rising order, sees an invalidation of a block. The first `count` records are the board's.
 // The records and their count stay two parameters: they are fields of the machine, which lends its memory beside them.
 pub fn invalidate(processors: &mut Processors, count: usize, sender: Sender, block: PhysicalBlock)

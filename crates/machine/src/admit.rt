@@ -13,7 +13,7 @@ use tables::types::{PROCESSORS, Place};
 const MOST_ACCEPTED: u32 = 1_000_000;
 
 impl<M, S, V, R> Machine<M, S, V, R> {
-    // Whether the machine was set up.
+    // Whether the machine was set up. Here and in `check` a match: `map_or(Ok(()), ..)` would be no plainer.
     pub(crate) fn is_set_up(&self) -> Result<(), MachineFault>
         ensures { result ≡ set_up self.now.setup }
     {

@@ -175,6 +175,9 @@ impl<M: Map, S: Memory, V: Rule, R: Rule> Machine<M, S, V, R> {
         })
     }
 
+    // This call and the next differ in the transfer between take and release. As a closure parameter its contract would say
+    // of any closure what `device_read` and `device_write` say, and would be no plainer.
+
     // A read of a block that takes the bus itself and gives it back, refused or not.
     pub fn read_block(
         &mut self,

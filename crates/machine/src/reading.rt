@@ -17,6 +17,8 @@ use replacement::rule::Rule;
 use tables::types::{Place, R_SETS, R_WAYS, REntry, V_SETS, V_WAYS, VLine};
 
 impl<M: Map, S: Memory, V: Rule, R: Rule> Machine<M, S, V, R> {
+    // This call and the next differ in the table and in what the cell is: what they share is `locate_place`.
+
     // A line of the V-cache.
     pub fn line(
         &self,

@@ -28,6 +28,8 @@ fn field(word: u32, high: u32, low: u32) -> u32
     word >> low & mask
 }
 
+// What the next five share is `field`: each has a type and bits of its own, which as parameters would read no plainer.
+
 // The processor that a read, a write or a switch names.
 fn processor(first: u32) -> ProcessorNumber
     ensures { result ≡ processor_of first }
