@@ -7,7 +7,7 @@ use crate::size::{ADDRESSES, BLOCK_WORDS, PAGE_BLOCKS};
 pub type Words = [u32; BLOCK_WORDS];
 
 // A process, as the operating system numbers it.
-#[derive(Clone, Copy, Debug, PartialEq, Eq)]
+#[derive(Clone, Copy, Debug, Default, PartialEq, Eq)]
 pub struct Process(pub u8);
 
 // A page of a process.
@@ -23,13 +23,13 @@ pub struct Frame(pub u8);
 pub struct Address(u16);
 
 // A block as a process names it. This type and the next have the same conversions, and are not one type with a parameter:
-// a rule of the project wraps each in a struct of its own, so that only a map's look-up leads from one to the other.
-#[derive(Clone, Copy, Debug, PartialEq, Eq)]
+// docs/DECISIONS.md fixes a struct for each, so that only a map's look-up leads from one to the other.
+#[derive(Clone, Copy, Debug, Default, PartialEq, Eq)]
 pub struct VirtualBlock(u16);
 
 // A block of memory. What a process names becomes one by a map's look-up and in no other way;
 // a memory and a device name theirs by number.
-#[derive(Clone, Copy, Debug, PartialEq, Eq)]
+#[derive(Clone, Copy, Debug, Default, PartialEq, Eq)]
 pub struct PhysicalBlock(u16);
 
 // The number of a word that has no address.

@@ -16,7 +16,7 @@ use tables::types::{PROCESSORS, Processor, Processors, Snoop};
 // then a proof knows nothing of what it wrote.
 
 // Every other processor, in rising order, sees an invalidation of a block. The first `count` records are the board's.
-// The records and their count stay two parameters: they are fields of the machine, which lends its memory beside them.
+// The records and their count stay two parameters, and not one struct in the machine: its proofs name both fields apart.
 pub fn invalidate(processors: &mut Processors, count: usize, sender: Sender, block: PhysicalBlock)
     ensures { Snoopable count processors.old → processors.new ≡ take_pass count (sender_number sender) block.0 processors.old }
 {
@@ -52,6 +52,7 @@ fn share_at<S: Memory>(
             ..shared
         },
         Snoop::Supplied { words } => {
+            // Not refused: the block is below the count.
             let _ = memory.write(block, words);
             Shared {
                 supplier: Supplier::Holder(number),

@@ -1,6 +1,5 @@
 pub mod First
 pub mod InRange
-pub mod Maps
 pub mod Modulo
 pub mod Snoops
 pub mod Ways

@@ -25,7 +25,6 @@ fn swap_out(line: &mut VLine, page: Option<Page>)
 }
 
 // The lines of a set.
-#[tactic(auto, using(crate::proofs::Maps::map_start, crate::proofs::Maps::map_turn, crate::proofs::Maps::map_end))]
 fn swap_set(lines: &mut [VLine; V_WAYS], page: Option<Page>)
     ensures { lines.new ≡ map (swapped page) lines.old }
 {
@@ -35,7 +34,6 @@ fn swap_set(lines: &mut [VLine; V_WAYS], page: Option<Page>)
 }
 
 // The lines of all sets.
-#[tactic(auto, using(crate::proofs::Maps::map_start, crate::proofs::Maps::map_turn, crate::proofs::Maps::map_end))]
 fn swap_sets(sets: &mut [[VLine; V_WAYS]; V_SETS], page: Option<Page>)
     ensures { sets.new ≡ map (map (swapped page)) sets.old }
 {

@@ -144,8 +144,8 @@ impl Fault for MachineFault {
     }
 }
 
-// A rule of the project has a conversion for each fault that the machine carries, raised by `?`, and clauses name what each
-// gives: so the next two, which differ in a case alone, stay by hand.
+// docs/DECISIONS.md fixes a conversion for each fault that the machine carries, raised by `?`, and clauses name what each
+// gives: so the next two, which differ in a type and a case alone, stay by hand.
 impl From<(MapFault, Caller)> for MachineFault {
     ghost from_gives = { λ e r. r ≡ Map e.1 e.0 };
 

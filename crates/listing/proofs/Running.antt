@@ -12,7 +12,6 @@ use Rattle.records.specs.Records.{decoded}
 use Rattle.records.specs.Traces.{Trace, carried, told, trace_from}
 use Rattle.lines.specs.declared.line.Line.{Line}
 use Rattle.lines.specs.Lines.{line_bytes}
-use Rattle.faults.specs.declared.machine_fault.MachineFault.{MachineFault}
 use Rattle.faults.specs.MachineFaults.{fault_number, machine_numbered}
 use Rattle.faults.specs.TraceFaults.{trace_number}
 use Rattle.faults.specs.declared.trace_fault.TraceFault.{TraceFault}

@@ -33,9 +33,7 @@ fn push_line(out: &mut Vec<u8>, line: Line)
     ensures len { vec_len out.new ≡ vec_len out.old + line_length }
     ensures capacity { vec_capacity out.old ≤ vec_capacity out.new }
 {
-    let Ok(()) = out.extend_from_slice(&line_bytes(line)) else {
-        unreachable();
-    };
+    out.extend_from_slice(&line_bytes(line)).unwrap();
 }
 
 // The lines of a trace's records, run on a machine, and that of the trace's fault.

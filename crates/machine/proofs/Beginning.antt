@@ -1,5 +1,5 @@
 -- A new machine: the number of its set-up, and its empty past.
-use Rattle.std.proofs.Common.{◌≡◌, ℕ, ◌%◌, Bool, true, false, ◌||◌, eqb, ltb, leb, List, [], length, replicate, Some, None, Option, sym, refl, ap, ◌∙◌, subst}
+use Rattle.std.proofs.Common.{◌≡◌, ℕ, ◌%◌, ◌<◌, Bool, true, false, ◌||◌, eqb, ltb, leb, List, [], length, replicate, Some, None, Option, sym, refl, ap, ◌∙◌, subst}
 use Rattle.std.proofs.lemmas.Bool.{ltb-true}
 use Rattle.base.specs.Sizes.{block_words}
 use Rattle.memory.specs.declared.memory.Memory as memories
@@ -40,11 +40,12 @@ setup_some n c o f e q = go f (ap setup_told (sym q ∙ e) ∙ setup_told_lem n 
     go MemorySize k = (k, ap setup_fault k)
 
 module _ {M S V R : Type 0} (m : maps.Ghosts M) (s : memories.Ghosts S) (v : replacements.Ghosts V) (u : replacements.Ghosts R) where
-  four : (y : S) → s.sound y → (b : ℕ) → length (blocks_of s y b) ≡ block_words
-  four y so b = go (ltb b (s.count y)) refl
+  -- a block of four words, as the memory's law says, and zeros past its count
+  four : ((y : S) (b : ℕ) → s.sound y → b < s.count y → length (s.holds y b) ≡ block_words) → (y : S) → s.sound y → (b : ℕ) → length (blocks_of s y b) ≡ block_words
+  four law y so b = go (ltb b (s.count y)) refl
     where
       go : (t : Bool) → ltb b (s.count y) ≡ t → length (pick t (s.holds y b) zeros) ≡ block_words
-      go true e = s.four y b so (ltb-true b (s.count y) e)
+      go true e = law y b so (ltb-true b (s.count y) e)
       go false e = refl
 
   -- a machine as it is made, but for the records and the set-up as the code has them
@@ -56,8 +57,8 @@ module _ {M S V R : Type 0} (m : maps.Ghosts M) (s : memories.Ghosts S) (v : rep
     pub fresh_board : s.sound y → board m s v u (fresh x y a b n id ps o) ≡ made (rules_of m s v u (fresh x y a b n id ps o)) n id (blocks_of s y) (s.count y) (m.frame x)
     fresh_board so = λ j. record { procs = ep j; cpus = n; mem = blocks_of s y; count = s.count y; table = m.frame x; held = false; accepted = 0; setup = (ap setup_told eo ∙ setup_told_lem n c ∙ ap (setup_number n) (ec so)) j; number = id }
 
-    pub fresh_past : m.sound x → s.sound y → HasPast m s v u (record { table = m.frame x; blocks = blocks_of s y }) [] (fresh x y a b n id ps o)
-    fresh_past sm ss = record {
+    pub fresh_past : ((y : S) (b : ℕ) → s.sound y → b < s.count y → length (s.holds y b) ≡ block_words) → m.sound x → s.sound y → HasPast m s v u (record { table = m.frame x; blocks = blocks_of s y }) [] (fresh x y a b n id ps o)
+    fresh_past law sm ss = record {
       sound = record { map = sm; memory = ss };
-      past = subst (Past (rules_of m s v u (fresh x y a b n id ps o)) (record { table = m.frame x; blocks = blocks_of s y }) []) (sym (fresh_board ss)) (begun n id (blocks_of s y) (s.count y) (m.frame x) (four y ss));
+      past = subst (Past (rules_of m s v u (fresh x y a b n id ps o)) (record { table = m.frame x; blocks = blocks_of s y }) []) (sym (fresh_board ss)) (begun n id (blocks_of s y) (s.count y) (m.frame x) (four law y ss));
     }

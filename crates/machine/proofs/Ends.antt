@@ -1,5 +1,5 @@
 -- The ends of a path: accepted, or refused with nothing changed.
-use Rattle.std.proofs.Common.{◌≡◌, ℕ, suc, ◌+◌, ◌-◌, ◌^◌, ◌<◌, min, Bool, true, false, List, [], Some, None, Ok, Err, Option, sym, refl, ap, ◌∙◌, subst, arith}
+use Rattle.std.proofs.Common.{◌≡◌, ℕ, suc, ◌+◌, ◌-◌, ◌^◌, ◌<◌, Bool, true, false, List, [], Some, None, Ok, Err, Option, sym, refl, ap, ◌∙◌, subst, arith}
 use Rattle.memory.specs.declared.memory.Memory as memories
 use Rattle.paging.specs.declared.map.Map as maps
 use Rattle.replacement.specs.declared.rule.Rule as replacements

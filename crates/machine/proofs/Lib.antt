@@ -1,6 +1,6 @@
+pub mod Lawful
 pub mod Besides
 pub mod Choosing
-pub mod Lawful
 pub mod Beginning
 pub mod Ending
 pub mod Ends
@@ -13,7 +13,6 @@ pub mod Looking
 pub mod Referring
 pub mod Switching
 pub mod Remapping
-pub mod Placing
 pub mod Readings
 pub mod Tenures
 pub mod Checking

@@ -1,5 +1,5 @@
 -- A whole reference: the first checks, then a hit or a miss.
-use Rattle.std.proofs.Common.{◌≡◌, ℕ, zero, suc, ◌<◌, ◌≤◌, Bool, true, false, cond, ltb, leb, List, Some, None, Ok, Err, Option, Result, if◌then◌else◌, sym, refl, ap, ◌∙◌, subst, arith}
+use Rattle.std.proofs.Common.{◌≡◌, ℕ, zero, suc, ◌<◌, ◌≤◌, Bool, true, false, ltb, leb, List, Ok, Err, Option, Result, if◌then◌else◌, sym, refl, ap, ◌∙◌, subst, arith}
 use Rattle.std.proofs.lemmas.Bool.{le-leb, lt-leb, ltb-false, ltb-true}
 use Rattle.base.specs.Sizes.{addresses}
 use Rattle.base.specs.Blocks.{addressed, block_of, page_of}

@@ -1,5 +1,6 @@
 -- A change of the map.
-use Rattle.std.proofs.Common.{◌≡◌, ℕ, zero, suc, ◌+◌, ◌-◌, ◌^◌, ◌<◌, Bool, true, false, cond, not, ◌&&◌, ◌||◌, eqb, ltb, leb, List, map, Ok, Err, Option, Result, sym, refl, ap, ◌∙◌, subst, arith}
+use Rattle.std.proofs.Common.{◌≡◌, ℕ, zero, suc, ◌+◌, ◌-◌, ◌^◌, ◌<◌, Bool, true, false, cond, not, ◌&&◌, ◌||◌, eqb, ltb, leb, List, map, Some, None, Ok, Err, Option, Result, sym, refl, ap, ◌∙◌, subst, arith}
+use Rattle.std.proofs.Math.Bool.{and-true}
 use Rattle.std.proofs.lemmas.Bool.{le-leb, lt-leb, ltb-false, ltb-true}
 use Rattle.base.specs.Sizes.{frames, pages, processes}
 use Rattle.base.specs.declared.block.Page.{Page}
@@ -16,10 +17,9 @@ use Rattle.faults.specs.declared.machine_fault.MachineFault.TheVariants.{Map}
 use Rattle.faults.specs.MachineFaults.{fault_number}
 use Rattle.tables.specs.declared.types.Processor.{Processor}
 use Rattle.rules.specs.Basic.{both, pick}
-use Rattle.rules.specs.Rule.{Lawful}
 use Rattle.rules.specs.Calls.{Board, Step, nothing, or_next, put_frame, remap_by, remap_number, swap_pages}
 use Rattle.rules.specs.History.{History, Setup}
-use Rattle.rules.specs.Run.{Call, perform}
+use Rattle.rules.specs.Run.{Call, entering, erasing, perform}
 use Rattle.machine.specs.Admits.{admitted, passed}
 use Rattle.machine.specs.References.{unless}
 use Rattle.machine.specs.Refusals.{Tells, remap_fault}
@@ -28,6 +28,7 @@ use Rattle.machine.specs.declared.machine.Machine.{Machine}
 use Rattle.machine.proofs.Accepting.{accepts}
 use Rattle.machine.proofs.Besides.{besides}
 use Rattle.machine.proofs.Admitting.{admit_passes, admit_stops}
+use Rattle.machine.proofs.Choosing.{Chooses, lawful}
 use Rattle.machine.proofs.Ends.{one_more, stops}
 use Rattle.machine.proofs.Lawful.{performs}
 
@@ -40,25 +41,30 @@ at_least n a = go (ltb a n) refl
     go false e = le-leb n a (ltb-false a n e)
 
 some_not : (a b c : Bool) → (not a || not b || not c) ≡ not (a && b && c)
-some_not true true true = refl
-some_not true true false = refl
-some_not true false true = refl
-some_not true false false = refl
-some_not false true true = refl
-some_not false true false = refl
-some_not false false true = refl
-some_not false false false = refl
+some_not true true c = refl
+some_not true false c = refl
+some_not false b c = refl
 
-and_true : (a : Bool) → (a && true) ≡ a
-and_true true = refl
-and_true false = refl
+-- A change of the entry of process q and page g: an enter gives it a frame, an erase none.
+module _ (q : ℕ) (g : Page) where
+  abbrev pub call_of : Option ℕ → Call
+  call_of (Some f) = entering q g.0 f
+  call_of None = erasing q g.0
 
--- the ranges as the map and as the rules test them
-pub enter_range : (q g f : ℕ) → (leb processes q || leb pages g || leb frames f) ≡ not (named q g && ltb f frames)
-enter_range q g f = (λ j. at_least processes q j || at_least pages g j || at_least frames f j) ∙ some_not (ltb q processes) (ltb g pages) (ltb f frames)
+  -- whether the map makes it
+  abbrev pub made : Option ℕ → Bool
+  made (Some f) = named q g.0 && ltb f frames
+  made None = named q g.0
 
-pub erase_range : (q g : ℕ) → (leb processes q || leb pages g || leb frames 0) ≡ not (named q g)
-erase_range q g = enter_range q g 0 ∙ ap not (and_true (named q g))
+  -- the frame that the rules test
+  abbrev tested : Option ℕ → ℕ
+  tested (Some f) = f
+  tested None = 0
+
+  -- the ranges as the map and as the rules test them
+  range : (o : Option ℕ) → (leb processes q || leb pages g.0 || leb frames (tested o)) ≡ not (made o)
+  range (Some f) = (λ j. at_least processes q j || at_least pages g.0 j || at_least frames f j) ∙ some_not (ltb q processes) (ltb g.0 pages) (ltb f frames)
+  range None = (λ j. at_least processes q j || at_least pages g.0 j || at_least frames 0 j) ∙ some_not (ltb q processes) (ltb g.0 pages) true ∙ ap not (and-true (named q g.0))
 
 -- one entry replaced, as the map and as the rules have it
 one_entry : (t : Frames) (q g : ℕ) (o : Option ℕ) → entry t q g o ≡ put_frame t q g o
@@ -70,21 +76,12 @@ one_entry t q g o = λ j a b. same (eqb a q) (eqb b g) (t a b) j
     same false true z = refl
     same false false z = refl
 
-module _ {M S V R : Type 0} (m : maps.Ghosts M) (s : memories.Ghosts S) (v : replacements.Ghosts V) (u : replacements.Ghosts R) where
+module _ {M S V R : Type 0} (m : maps.Ghosts M) (s : memories.Ghosts S) (v : replacements.Ghosts V) (u : replacements.Ghosts R) (cv : Chooses v) (cu : Chooses u) where
   -- a machine with another map, other processors and accepted calls
   abbrev pub with_map : Machine M S V R → M → List Processor → ℕ → Machine M S V R
   with_map x y ps n = record { map = y; memory = x.memory; rules = x.rules; processors = ps; count = x.count; held = x.held; accepted = n; setup = x.setup; number = x.number }
 
-  -- what a call of the map promises that changes the entry of process q and page g to o, where ok holds
-  pub record Changes (x y : M) (q : ℕ) (g : Page) (o : Option ℕ) (ok : Bool) (r : Result (Unit {0}) MapFault) : Type 0 where
-    pub kept : m.sound x → m.sound y
-    pub answer : m.sound x → r ≡ changing ok g
-    pub frames : m.sound x → m.frame y ≡ changed ok (m.frame x) q g.0 o
-
-  -- the call, an enter or an erase: what it is in the rules, and ok against the ranges that they test
-  module _ (x : Machine M S V R) (lv : Lawful (rules_of m s v u x).for_v) (lr : Lawful (rules_of m s v u x).for_r) (call : Call) (q : ℕ) (g : Page) (f : ℕ) (o : Option ℕ) (ok : Bool)
-      (is : perform (rules_of m s v u x) call (board m s v u x) ≡ remap_by (remap_number (board m s v u x) q g.0 f) (board m s v u x) q g.0 o)
-      (range : (leb processes q || leb pages g.0 || leb frames f) ≡ not ok) where
+  module _ (x : Machine M S V R) (q : ℕ) (g : Page) (o : Option ℕ) where
     abbrev st : Board
     st = board m s v u x
 
@@ -94,22 +91,38 @@ module _ {M S V R : Type 0} (m : maps.Ghosts M) (s : memories.Ghosts S) (v : rep
     abbrev T : Result (Unit {0}) MachineFault → Step → Type 0
     T = Tells (λ _. nothing) (remap_fault g)
 
-    parts : (n : ℕ) → remap_by n st q g.0 o ≡ unless n st done
-    parts zero = refl
-    parts (suc n) = refl
+    abbrev number : ℕ
+    number = remap_number st q g.0 (tested q g o)
 
-    does : (y : Machine M S V R) (r : Result (Unit {0}) MachineFault) → ((w : Setup) (h : History) → HasPast m s v u w h x → Does m s v u x y (T r) (unless (remap_number st q g.0 f) st done)) → Performs m s v u call x y (T r)
-    does y r k = performs m s v u call x y (T r) lv lr (λ w h P. subst (Does m s v u x y (T r)) (sym (is ∙ parts (remap_number st q g.0 f))) (k w h P))
+    step : perform (rules_of m s v u x) (call_of q g o) st ≡ unless number st done
+    step = is o ∙ parts number
+      where
+        is : (o : Option ℕ) → perform (rules_of m s v u x) (call_of q g o) st ≡ remap_by (remap_number st q g.0 (tested q g o)) st q g.0 o
+        is (Some f) = refl
+        is None = refl
 
-    pub remap_not_admitted : (e : MachineFault) → Err e ≡ admitted x.setup x.accepted Nobody → Performs m s v u call x x (T (Err e))
+        parts : (n : ℕ) → remap_by n st q g.0 o ≡ unless n st done
+        parts zero = refl
+        parts (suc n) = refl
+
+    does : (y : Machine M S V R) (r : Result (Unit {0}) MachineFault) → ((w : Setup) (h : History) → HasPast m s v u w h x → Does m s v u x y (T r) (unless number st done)) → Performs m s v u (call_of q g o) x y (T r)
+    does y r k = performs m s v u (call_of q g o) x y (T r) (lawful v cv x.rules.v) (lawful u cu x.rules.r) (λ w h P. subst (Does m s v u x y (T r)) (sym step) (k w h P))
+
+    pub remap_not_admitted : (e : MachineFault) → Err e ≡ admitted x.setup x.accepted Nobody → Performs m s v u (call_of q g o) x x (T (Err e))
     remap_not_admitted e a = does x (Err e) (λ w h P. admit_stops m s v u x P.sound {A = Unit {0}} (λ _. nothing) Nobody (λ n. Map Nobody (OutOfRange g)) _ done e (sym a))
 
-    module _ (a : passed ≡ admitted x.setup x.accepted Nobody) (y : M) (r : Result (Unit {0}) MapFault) (c : Changes x.map y q g o ok r) where
+    -- what a call of the map promises that makes the change
+    pub record Changes (y : M) (r : Result (Unit {0}) MapFault) : Type 0 where
+      pub kept : m.sound x.map → m.sound y
+      pub answer : m.sound x.map → r ≡ changing (made q g o) g
+      pub frames : m.sound x.map → m.frame y ≡ changed (made q g o) (m.frame x.map) q g.0 o
+
+    module _ (a : passed ≡ admitted x.setup x.accepted Nobody) (y : M) (r : Result (Unit {0}) MapFault) (c : Changes y r) where
       pub remap_out_of_range : (e : MapFault × Caller) (k : MachineFault) → Err e ≡ besides r Nobody → k ≡ Map e.1 e.0
-          → Performs m s v u call x (with_map x y x.processors x.accepted) (T (Err k))
-      remap_out_of_range e k b ek = does (with_map x y x.processors x.accepted) (Err k) (λ w h P. go w h P ok refl)
+          → Performs m s v u (call_of q g o) x (with_map x y x.processors x.accepted) (T (Err k))
+      remap_out_of_range e k b ek = does (with_map x y x.processors x.accepted) (Err k) (λ w h P. go w h P (made q g o) refl)
         where
-          go : (w : Setup) (h : History) → HasPast m s v u w h x → (t : Bool) → ok ≡ t → Does m s v u x (with_map x y x.processors x.accepted) (T (Err k)) (unless (remap_number st q g.0 f) st done)
+          go : (w : Setup) (h : History) → HasPast m s v u w h x → (t : Bool) → made q g o ≡ t → Does m s v u x (with_map x y x.processors x.accepted) (T (Err k)) (unless number st done)
           go w h P true et =
               let er : r ≡ Ok tt = c.answer P.sound.map ∙ ap (λ (t : Bool). changing t g) et in
               let eb : Err e ≡ Ok tt = b ∙ ap (λ (t : Result (Unit {0}) MapFault). besides t Nobody) er in
@@ -124,13 +137,13 @@ module _ {M S V R : Type 0} (m : maps.Ghosts M) (s : memories.Ghosts S) (v : rep
               let table : m.frame y ≡ m.frame x.map = c.frames P.sound.map ∙ ap (λ (t : Bool). changed t (m.frame x.map) q g.0 o) et in
               stops m s v u (remap_fault g) x {A = Unit {0}} (λ _. nothing) (with_map x y x.processors x.accepted) 8 _ done k (record { map = c.kept P.sound.map; memory = P.sound.memory }) refl
               (λ j. record { procs = st.procs; cpus = st.cpus; mem = st.mem; count = st.count; table = table j; held = st.held; accepted = st.accepted; setup = st.setup; number = st.number })
-              (λ j. or_next (O.full j) (pick ((range ∙ ap not et) j) 9 0)) fault (ap fault_number fault)
+              (λ j. or_next (O.full j) (pick ((range q g o ∙ ap not et) j) 9 0)) fault (ap fault_number fault)
 
       pub remap_ends : (ps : List Processor) (n : ℕ) → Ok tt ≡ besides r Nobody → ps ≡ map (swap_pages q g.0) x.processors → (x.accepted < 2 ^ 32 - 1 → n ≡ x.accepted + 1)
-          → Performs m s v u call x (with_map x y ps n) (T (Ok tt))
-      remap_ends ps n b ep en = does (with_map x y ps n) (Ok tt) (λ w h P. go w h P ok refl)
+          → Performs m s v u (call_of q g o) x (with_map x y ps n) (T (Ok tt))
+      remap_ends ps n b ep en = does (with_map x y ps n) (Ok tt) (λ w h P. go w h P (made q g o) refl)
         where
-          go : (w : Setup) (h : History) → HasPast m s v u w h x → (t : Bool) → ok ≡ t → Does m s v u x (with_map x y ps n) (T (Ok tt)) (unless (remap_number st q g.0 f) st done)
+          go : (w : Setup) (h : History) → HasPast m s v u w h x → (t : Bool) → made q g o ≡ t → Does m s v u x (with_map x y ps n) (T (Ok tt)) (unless number st done)
           go w h P false et =
               let er : r ≡ Err (OutOfRange g) = c.answer P.sound.map ∙ ap (λ (t : Bool). changing t g) et in
               let eb : ◌≡◌ {A = Result (Unit {0}) (MapFault × Caller)} (Ok tt) (Err (OutOfRange g, Nobody)) = b ∙ ap (λ (t : Result (Unit {0}) MapFault). besides t Nobody) er in
@@ -142,4 +155,4 @@ module _ {M S V R : Type 0} (m : maps.Ghosts M) (s : memories.Ghosts S) (v : rep
               let table : m.frame y ≡ put_frame (m.frame x.map) q g.0 o = c.frames P.sound.map ∙ ap (λ (t : Bool). changed t (m.frame x.map) q g.0 o) et ∙ one_entry (m.frame x.map) q g.0 o in
               accepts m s v u x {A = Unit {0}} (λ _. nothing) (remap_fault g) tt (with_map x y ps n) _ done (record { map = c.kept P.sound.map; memory = P.sound.memory }) refl
               (λ j. record { procs = ep j; cpus = st.cpus; mem = st.mem; count = st.count; table = table j; held = st.held; accepted = more j; setup = st.setup; number = st.number })
-              (λ j. or_next (O.full j) (pick ((range ∙ ap not et) j) 9 0)) refl refl
+              (λ j. or_next (O.full j) (pick ((range q g o ∙ ap not et) j) 9 0)) refl refl

@@ -1,5 +1,5 @@
 -- The checks of a reading of a place in a table.
-use Rattle.std.specs.Prelude.{◌≡◌, ℕ, ◌<◌, ◌≤◌, ◌||◌, None, Ok, Err, Option, Result, nat_le}
+use Rattle.std.specs.Prelude.{◌≡◌, ℕ, ◌<◌, ◌≤◌, ◌||◌, Ok, Err, Option, Result, nat_le}
 use Rattle.records.specs.declared.record.ProcessorNumber.{ProcessorNumber}
 use Rattle.faults.specs.declared.machine_fault.SetupFault.{SetupFault}
 use Rattle.faults.specs.declared.machine_fault.MachineFault.{MachineFault}

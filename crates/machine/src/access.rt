@@ -29,6 +29,8 @@ use steps::room::{install, make_room};
 use tables::types::Place;
 
 impl<M: Map, S: Memory, V: Rule, R: Rule> Machine<M, S, V, R> {
+    // The three paths below end alike: as a method, their end would have to promise each field that it leaves.
+
     // A valid line has the tag.
     pub(crate) fn hit(&mut self, r: Reference, way: usize) -> Result<Access, MachineFault>
         ensures { Path M.Map S.Memory V.Rule R.Rule r self.old self.new result (v_find (proc_at self.old.processors r.processor.0) (block_of r.address.0) ≡ Some way) (hit_step (rules_of M.Map S.Memory V.Rule R.Rule self.old) (board M.Map S.Memory V.Rule R.Rule self.old) r way) }

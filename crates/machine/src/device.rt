@@ -61,7 +61,7 @@ impl<M: Map, S: Memory, V: Rule, R: Rule> Machine<M, S, V, R> {
         })
     }
 
-    // The bus is given back. A refused release hands the tenure back.
+    // The bus is given back. A refused release hands the tenure back; so a match, as each arm ends the tenure in its way.
     pub fn release(&mut self, tenure: Tenure) -> Result<(), (MachineFault, Tenure)>
         ensures call { Performs M.Map S.Memory V.Rule R.Rule (releasing tenure.machine) self.old self.new (Releases tenure result) }
         ensures back { Returns tenure result }
@@ -192,10 +192,8 @@ impl<M: Map, S: Memory, V: Rule, R: Rule> Machine<M, S, V, R> {
     {
         let tenure = self.take()?;
         let moved = self.device_read(&tenure, block, words);
-        match self.release(tenure) {
-            Ok(()) => moved,
-            Err(_) => unreachable(),
-        }
+        self.release(tenure).unwrap();
+        moved
     }
 
     // A write of a block that takes the bus itself and gives it back, refused or not.
@@ -211,9 +209,7 @@ impl<M: Map, S: Memory, V: Rule, R: Rule> Machine<M, S, V, R> {
     {
         let tenure = self.take()?;
         let moved = self.device_write(&tenure, block, words);
-        match self.release(tenure) {
-            Ok(()) => moved,
-            Err(_) => unreachable(),
-        }
+        self.release(tenure).unwrap();
+        moved
     }
 }

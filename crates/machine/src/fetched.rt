@@ -18,6 +18,7 @@ pub(crate) fn write_back<S: Memory>(memory: &mut S, entry: &REntry)
     ensures { S.Memory.sound memory.old → (entry.now.rdirty ≡ true → entry.now.block.0 < S.Memory.count memory.old) → Backs S.Memory entry.now memory.old memory.new }
 {
     if entry.rdirty {
+        // Not refused: a block that was fetched is below the count.
         let _ = memory.write(entry.block, entry.words);
     }
 }

@@ -37,6 +37,8 @@ impl<M: Map, S: Memory, V: Rule, R: Rule> Machine<M, S, V, R> {
 }
 
 impl<M: ChangeableMap, S: Memory, V: Rule, R: Rule> Machine<M, S, V, R> {
+    // This call and the next differ in the map's operation and what it is given: as one, that would be a switch.
+
     // A page is mapped to a frame; the valid lines of the page become swapped on every processor that runs the process.
     pub fn enter(&mut self, process: Process, page: Page, frame: Frame) -> Result<(), MachineFault>
         ensures { Performs M.Map S.Memory V.Rule R.Rule (entering process.0 page.0 frame.0) self.old self.new (Tells (λ _. nothing) (remap_fault page) result) }

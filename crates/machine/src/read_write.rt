@@ -30,14 +30,13 @@ impl<M: Map, S: Memory, V: Rule, R: Rule> Machine<M, S, V, R> {
     {
         self.admit(Caller::Processor(processor))?;
         self.locate(processor)?;
-        let Ok(address) = Address::try_from(address) else {
-            return Err(MachineFault::NoAddress(processor));
-        };
+        let address = Address::try_from(address).map_err(|_| MachineFault::NoAddress(processor))?;
         let r = Reference {
             processor,
             address,
             value,
         };
+        // docs/DECISIONS.md fixes `let .. else` here: its else side starts the path of a miss.
         let Some(way) = find_line(&self.processors[r.cpu()], r.block()) else {
             return self.miss(r);
         };

@@ -1,7 +1,8 @@
 // The right of the device to move blocks on one machine's bus, from take to release.
 ghost use Rattle.std.specs.Prelude.{◌≡◌, false};
 
-// `live` stands until the machine has taken it back.
+// `live` stands until the machine has taken it back: docs/DECISIONS.md fixes that a contract of `drop` keeps a holder from
+// ending with it.
 pub struct Tenure {
     pub(crate) machine: u8,
     pub(crate) live: bool,

@@ -18,12 +18,6 @@ pub trait Memory {
     // is promised of every memory.
     ghost sound: { Self → Type 0 };
 
-    // Two laws of a sound memory. They stand above the methods, as members, and not below them, as
-    // laws: the machine's proofs take them with the other members of its memory.
-    ghost few: { (s : Self) → sound s → count s ≤ most_blocks };
-
-    ghost four: { (s : Self) (b : ℕ) → sound s → b < count s → length (holds s b) ≡ block_words };
-
     fn count_blocks(&self) -> u16
         ensures { sound self.now → result ≡ count self.now };
 
@@ -40,6 +34,12 @@ pub trait Memory {
         ensures own { Own block result }
         ensures same { sound self.old → count self.new ≡ count self.old }
         ensures blocks { sound self.old → holds self.new ≡ written (count self.old) (holds self.old) block words };
+
+    // A sound memory has no more blocks than a memory has.
+    ghost few: { (s : Self) → sound s → count s ≤ most_blocks };
+
+    // Each of its blocks has four words.
+    ghost four: { (s : Self) (b : ℕ) → sound s → b < count s → length (holds s b) ≡ block_words };
 }
 
 // The number of a block, which must be below a count of blocks.

@@ -5,7 +5,7 @@ use Rattle.base.specs.declared.block.Page.{Page}
 use Rattle.base.specs.declared.block.Process.{Process}
 use Rattle.paging.specs.Frames.{Frames}
 use Rattle.paging.specs.declared.fault.MapFault.{MapFault}
-use Rattle.paging.specs.declared.kept.Kept.{Kept}
+use Rattle.paging.specs.declared.mapped.MappedPage.{MappedPage}
 use Rattle.paging.specs.declared.map.Map as maps
 use Rattle.paging.specs.declared.buffer.TranslationBuffer.{TranslationBuffer}
 
@@ -15,17 +15,17 @@ places = 16
 
 -- what the places hold: each is empty, or keeps the frame of a page
 abbrev pub Places : Type 0
-Places = List (Option Kept)
+Places = List (Option MappedPage)
 
 -- the place of a page
 abbrev pub place_of : Page → ℕ
 place_of g = g.0 % places
 
-abbrev pub place_at : Places → ℕ → Option Kept
+abbrev pub place_at : Places → ℕ → Option MappedPage
 place_at ps i = slice_index_or ps i None
 
 -- the frame that a place gives for a process and a page
-abbrev pub given : Option Kept → Process → Page → Option Frame
+abbrev pub given : Option MappedPage → Process → Page → Option Frame
 given None p g = None
 given (Some k) p g = if k.process.0 == p.0 && k.page.0 == g.0 then Some k.frame else None
 
@@ -48,7 +48,7 @@ after_change ps g (Ok u) = slice_set ps (place_of g) None
 after_change ps g (Err e) = ps
 
 -- what place i holds is of a page that belongs there, and is what the map says
-abbrev pub Agrees : Frames → ℕ → Option Kept → Type 0
+abbrev pub Agrees : Frames → ℕ → Option MappedPage → Type 0
 Agrees m i None = Unit {0}
 Agrees m i (Some k) = (place_of k.page ≡ i) × (m k.process.0 k.page.0 ≡ Some k.frame.0)
 

@@ -3,8 +3,8 @@ ghost use Rattle.paging.specs.Frames.{changed, changing, enters, looked, named, 
 ghost use Rattle.paging.specs.Places.{Sound, after_change, after_look, kept as kept_in, place_of, places as place_count};
 
 use crate::fault::MapFault;
-use crate::kept::Kept;
 use crate::map::{ChangeableMap, Map, block_in};
+use crate::mapped::MappedPage;
 use crate::straight::StraightMap;
 use crate::table::FlatTable;
 use base::block::{Frame, Page, PhysicalBlock, Process, VirtualBlock};
@@ -15,7 +15,7 @@ const PLACES: usize = 16;
 #[derive(Drop)]
 pub struct TranslationBuffer<M> {
     below: M,
-    places: [Option<Kept>; PLACES],
+    places: [Option<MappedPage>; PLACES],
 }
 
 // The place of a page.
@@ -55,7 +55,7 @@ impl<M: Map> TranslationBuffer<M> {
             .map(|kept| kept.frame)
     }
 
-    fn put(&mut self, page: Page, place: Option<Kept>)
+    fn put(&mut self, page: Page, place: Option<MappedPage>)
         ensures same { self.new.below ≡ self.old.below }
         ensures places { self.new.places ≡ slice_set self.old.places (place_of page) place }
     {
@@ -83,7 +83,7 @@ impl<M: Map> Map for TranslationBuffer<M> {
         let frame = self.below.frame_of(process, page)?;
         self.put(
             page,
-            Some(Kept {
+            Some(MappedPage {
                 process,
                 page,
                 frame,

@@ -2,7 +2,7 @@
 
 pub mod buffer;
 pub mod fault;
-pub mod kept;
 pub mod map;
+pub mod mapped;
 pub mod straight;
 pub mod table;

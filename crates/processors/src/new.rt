@@ -21,11 +21,7 @@ fn new_processor<V: Rule, R: Rule>(rules: &CacheRules<V, R>) -> Processor
         vrule: [rules.v.first_word(); V_SETS],
         rrule: [rules.r.first_word(); R_SETS],
         process: Process(0),
-        counts: Counts {
-            fetched: 0,
-            replaced: 0,
-            invalidated: 0,
-        },
+        counts: Counts::default(),
     }
 }
 

@@ -5,6 +5,13 @@ use crate::fault::FormatFault;
 use crate::record::{Kind, ProcessorNumber, Record};
 use base::block::{Frame, Page, PhysicalBlock, Process};
 
+// The kind of the record that begins with a word, where there is one.
+pub fn kind(word: u32) -> Option<Kind>
+    ensures { result ≡ kind_of word }
+{
+    Kind::try_from(word >> 28).ok()
+}
+
 // The bits of a first word that its kind does not name, set.
 pub fn unnamed_bits(kind: Kind) -> u32
     ensures { result ≡ unnamed_bits kind }
@@ -69,7 +76,7 @@ fn block(first: u32) -> PhysicalBlock
 fn checked_kind(first: u32, record: u32) -> Result<Kind, FormatFault>
     ensures { result ≡ checked_kind «record» first (kind_of first) }
 {
-    let kind = Kind::try_from(first >> 28).map_err(|_| FormatFault::UnknownKind { record })?;
+    let kind = kind(first).ok_or(FormatFault::UnknownKind { record })?;
     if first & unnamed_bits(kind) != 0 {
         return Err(FormatFault::UnnamedBit { record });
     }
@@ -121,7 +128,7 @@ fn device_read(first: u32) -> Record
     }
 }
 
-// A write at the front of the words: two words. Here and below the project fixes a pattern over the words for each kind.
+// A write at the front of the words: two words. docs/DECISIONS.md fixes a pattern over the words for each kind.
 fn write(words: &[u32], record: u32) -> Result<(Record, &[u32]), FormatFault>
     ensures { seen result ≡ at_front «record» (write_of «record») words.now }
 {

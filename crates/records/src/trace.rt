@@ -62,7 +62,7 @@ pub fn read_trace(heap: Global, bytes: &[u8]) -> Result<Vec<Record>, TraceError>
     ensures memory { result ≡ Err NoMemory → length bytes.now ≤ trace_bytes }
 {
     if bytes.len() > TRACE_BYTES {
-        return Err(TraceError::Format(FormatFault::TooLong));
+        return Err(FormatFault::TooLong.into());
     }
     let words = words_of(heap, bytes)?;
     let mut records = Vec::new(heap);

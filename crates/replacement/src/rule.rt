@@ -48,3 +48,38 @@ pub trait Rule {
 
     ghost loaded_modulo: { (s : Self) (w x : ℕ) → loaded s w x ≡ loaded s w (x % ways) };
 }
+
+// A rule that is lent is the rule.
+impl<T: Rule> Rule for &T {
+    ghost first = { λ s. T.Rule.first s.now };
+
+    ghost used = { λ s. T.Rule.used s.now };
+
+    ghost loaded = { λ s. T.Rule.loaded s.now };
+
+    ghost choice = { λ s. T.Rule.choice s.now };
+
+    ghost chosen = { λ s. T.Rule.chosen s.now };
+
+    ghost none = { λ s. T.Rule.none s.now };
+
+    ghost used_modulo = { λ s. T.Rule.used_modulo s.now };
+
+    ghost loaded_modulo = { λ s. T.Rule.loaded_modulo s.now };
+
+    fn first_word(&self) -> u32 {
+        T::first_word(*self)
+    }
+
+    fn after_use(&self, word: u32, way: u8) -> u32 {
+        T::after_use(*self, word, way)
+    }
+
+    fn after_load(&self, word: u32, way: u8) -> u32 {
+        T::after_load(*self, word, way)
+    }
+
+    fn choose(&self, word: u32, asked: WaySet) -> u8 {
+        T::choose(*self, word, asked)
+    }
+}

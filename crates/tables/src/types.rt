@@ -11,15 +11,17 @@ pub const R_SETS: usize = 32;
 
 pub const R_WAYS: usize = 4;
 
-// A set and a way of one of the caches.
-#[derive(Clone, Copy, Debug, PartialEq, Eq)]
+// A set and a way of one of the caches. That they are in range is a premise of the calls that take a place, and no
+// invariant of it: docs/DECISIONS.md tells what was tried.
+#[derive(Clone, Copy, Debug, Default, PartialEq, Eq)]
 pub struct Place {
     pub set: usize,
     pub way: usize,
 }
 
-#[derive(Clone, Copy, Debug, PartialEq, Eq)]
+#[derive(Clone, Copy, Debug, Default, PartialEq, Eq)]
 pub enum LineState {
+    #[default]
     Empty,
     // It can be hit.
     Valid,
@@ -28,8 +30,8 @@ pub enum LineState {
 }
 
 // A line of the V-cache. The tag is its virtual block, the R-place that of its entry in the R-cache.
-// An empty line is no None: a rule of the project tells the other fields of one, each as 0 or false.
-#[derive(Clone, Copy, Debug, PartialEq, Eq)]
+// An empty line is no None: docs/RULES.md tells the other fields of one, each as 0 or false.
+#[derive(Clone, Copy, Debug, Default, PartialEq, Eq)]
 pub struct VLine {
     pub state: LineState,
     pub tag: VirtualBlock,
@@ -38,8 +40,9 @@ pub struct VLine {
     pub rplace: Place,
 }
 
-#[derive(Clone, Copy, Debug, PartialEq, Eq)]
+#[derive(Clone, Copy, Debug, Default, PartialEq, Eq)]
 pub enum EntryState {
+    #[default]
     Absent,
     // No other processor has the block.
     Private,
@@ -48,15 +51,16 @@ pub enum EntryState {
 }
 
 // The copy of an entry's block in the V-cache, and whether it is newer than the entry's words.
-// Shaped as an Option, and an enum of its own all the same: a rule of the project has a child enum in each entry.
-#[derive(Clone, Copy, Debug, PartialEq, Eq)]
+// Shaped as an Option, and an enum of its own all the same: docs/DECISIONS.md fixes a child enum in each entry.
+#[derive(Clone, Copy, Debug, Default, PartialEq, Eq)]
 pub enum Child {
+    #[default]
     NoChild,
     At { place: Place, vdirty: bool },
 }
 
-// An entry of the R-cache. An absent one is no None: a rule of the project has a state enum in each entry.
-#[derive(Clone, Copy, Debug, PartialEq, Eq)]
+// An entry of the R-cache. An absent one is no None: docs/DECISIONS.md fixes a state enum in each entry.
+#[derive(Clone, Copy, Debug, Default, PartialEq, Eq)]
 pub struct REntry {
     pub state: EntryState,
     pub block: PhysicalBlock,
@@ -66,7 +70,7 @@ pub struct REntry {
 }
 
 // Blocks fetched by a processor, and those that its entries lost again.
-#[derive(Clone, Copy, Debug, PartialEq, Eq)]
+#[derive(Clone, Copy, Debug, Default, PartialEq, Eq)]
 pub struct Counts {
     pub fetched: u32,
     pub replaced: u32,

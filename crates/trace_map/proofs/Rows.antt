@@ -9,7 +9,7 @@ use Rattle.base.specs.declared.block.Frame.{Frame}
 use Rattle.paging.specs.Frames.{Frames, found, looked, named}
 use Rattle.paging.specs.declared.fault.MapFault.{MapFault}
 use Rattle.trace_map.specs.Pages.{mapped, row_of, rows_of}
-use Rattle.trace_map.specs.declared.pages.MappedPage.{MappedPage}
+use Rattle.paging.specs.declared.mapped.MappedPage.{MappedPage}
 
 flat_from : {X : Type 0} (f : ℕ → List X) (a n k : ℕ) → k ≡ a + n → flat_map f (range_with_len a (suc n)) ≡ flat_map f (range_with_len a n) ++ f k
 flat_from f a zero k e = grind (arith, append-nil)

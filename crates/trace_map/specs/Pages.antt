@@ -4,7 +4,7 @@ use Rattle.std.specs.List.{flat_map, range_with_len}
 use Rattle.base.specs.Sizes.{pages, processes}
 use Rattle.base.specs.declared.block.Frame.{Frame}
 use Rattle.paging.specs.Frames.{Frames}
-use Rattle.trace_map.specs.declared.pages.MappedPage.{MappedPage}
+use Rattle.paging.specs.declared.mapped.MappedPage.{MappedPage}
 
 -- the row of one page: none where it has no frame
 abbrev pub row_of : ℕ → ℕ → Option ℕ → List MappedPage

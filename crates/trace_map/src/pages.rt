@@ -4,15 +4,8 @@ ghost use Rattle.trace_map.specs.Pages.{mapped, sharing};
 use base::block::{Frame, Page, Process};
 use base::size::{PAGES, PROCESSES};
 use paging::map::Map;
+use paging::mapped::MappedPage;
 use std::alloc::{AllocError, Global};
-
-// A page of a process that has a frame.
-#[derive(Clone, Copy, Debug, PartialEq, Eq)]
-pub struct MappedPage {
-    pub process: Process,
-    pub page: Page,
-    pub frame: Frame,
-}
 
 // All mapped pages, in the order of processes and pages, by look-up alone.
 pub fn mapped_pages<M: Map>(heap: Global, map: &mut M) -> Result<Vec<MappedPage>, AllocError>

@@ -4,7 +4,7 @@ ghost use Rattle.trace_map.specs.Played.{is_enter, is_erase, played, played_all}
 use paging::map::ChangeableMap;
 use records::record::Record;
 
-// How many of the records are enters. This and the next stay two: they differ in a pattern, which is no value to pass on.
+// How many of the records are enters. This and the next stay two: one function of a test would be the chain again.
 pub fn enters(records: &[Record]) -> usize
     ensures { result ≡ count_by is_enter records.now }
 {

@@ -3,7 +3,8 @@ use base::block::{Frame, Page, Process};
 use std::alloc::Global;
 use std::process::Abort;
 use std::test::Fail;
-use trace_map::pages::{MappedPage, mapped_pages, sharers};
+use paging::mapped::MappedPage;
+use trace_map::pages::{mapped_pages, sharers};
 use trace_map::trace::{Counts, map_of_trace};
 
 // 18 records. Frame 9 is shared; page 5 of process 1 is entered twice, and page 10 of process 5

@@ -7,7 +7,8 @@ use std::alloc::{AllocError, Global};
 use std::io::{self, Read, Write};
 use std::process::ExitCode;
 use thiserror::Error;
-use trace_map::pages::{MappedPage, mapped_pages, sharers};
+use paging::mapped::MappedPage;
+use trace_map::pages::{mapped_pages, sharers};
 use trace_map::trace::{Counts, map_of_trace};
 
 // how many of the pages that share a frame stand on one line

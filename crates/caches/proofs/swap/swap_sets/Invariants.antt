@@ -1,7 +1,6 @@
-use Rattle.std.proofs.Common.{◌≡◌, map}
+use Rattle.std.proofs.Common.{◌≡◌, ◌++◌, map, take, drop}
 use Rattle.caches.specs.Swapped.{swapped}
-use Rattle.caches.proofs.Maps.{map_first}
 use Rattle.caches.proofs.swap.swap_sets.Given as goal
 
 abbrev pub invariant-loop-lines : goal.invariant-loop-lines
-invariant-loop-lines l = l.sets ≡ map_first (map (swapped l.page)) l.lines-index l.initial.sets
+invariant-loop-lines l = l.sets ≡ map (map (swapped l.page)) (take l.lines-index l.initial.sets) ++ drop l.lines-index l.initial.sets

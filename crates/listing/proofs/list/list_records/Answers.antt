@@ -1,8 +1,7 @@
-use Rattle.std.proofs.Common.{◌≡◌, ℕ, suc, ◌+◌, ◌*◌, ◌≤◌, List, ◌∷◌, length, Ok, Err, vec_items, vec_len, sym, ap, ◌∙◌, subst, arith}
+use Rattle.std.proofs.Common.{◌≡◌, suc, ◌∷◌, length, vec_items, ap, ◌∙◌, subst, arith}
 use Rattle.records.specs.Told.{told_by}
-use Rattle.rules.specs.Listing.{fault_line}
 use Rattle.listing.specs.Listed.{Going}
-use Rattle.listing.specs.Played.{line_for, refused}
+use Rattle.listing.specs.Played.{refused}
 use Rattle.records.specs.Faults.{number_of}
 use Rattle.listing.proofs.Running.{Items, goes_on, stops_at}
 use Rattle.listing.proofs.list.list_records.Goals.{in-Ok, in-Err}

@@ -8,5 +8,5 @@ returns g c = record {
       c.setup_fault-setup.ensures c.new_processors-records.ensures c.count_blocks.ensures;
   parts = (refl, refl, refl, refl);
   past = fresh_past g.M.Map g.S.Memory g.V.Rule g.R.Rule c.args.map c.args.memory c.args.v_rule c.args.r_rule c.args.processors c.args.number c.count_blocks.result c.new_processors-records.result c.setup_fault-setup.result
-      c.setup_fault-setup.ensures c.new_processors-records.ensures c.count_blocks.ensures;
+      c.setup_fault-setup.ensures c.new_processors-records.ensures c.count_blocks.ensures g.met.S.Memory.four;
 }

@@ -1,8 +1,8 @@
 use base::block::{Frame, Page, Process};
 
-// What one place of a translation buffer keeps: the frame of a page.
+// A page of a process that has a frame, and that frame.
 #[derive(Clone, Copy, Debug, PartialEq, Eq)]
-pub struct Kept {
+pub struct MappedPage {
     pub process: Process,
     pub page: Page,
     pub frame: Frame,
