@@ -28,7 +28,8 @@ pub fn invalidate(processors: &mut Processors, count: usize, sender: Sender, blo
     }
 }
 
-// What a read on the bus came to: who supplies the block, and whether another processor has it.
+// What a read on the bus came to: who supplies the block, and whether another processor has it. The memory supplies in
+// both cases, so the flag is no part of the supplier.
 #[derive(Clone, Copy, Debug, PartialEq, Eq)]
 pub struct Shared {
     pub supplier: Supplier,
@@ -85,7 +86,8 @@ pub fn share<S: Memory>(
     shared
 }
 
-// A fetch: a read seen by the others and, for a write, an invalidation after it.
+// A fetch: a read seen by the others and, for a write, an invalidation after it. Sender, block and `exclusive` stay three
+// parameters here and in the machine: a struct would be made for one call and taken apart in it.
 pub fn fetch<S: Memory>(
     processors: &mut Processors,
     memory: &mut S,

@@ -1,4 +1,4 @@
--- The parts of what a processor does at a message make the whole.
+-- The child of an entry in a processor whose tables name no place outside them.
 use Rattle.std.proofs.Common.{◌≡◌, ℕ, refl}
 use Rattle.tables.specs.declared.types.Child.{Child}
 use Rattle.tables.specs.declared.types.Child.TheVariants.{NoChild, At}

@@ -13,6 +13,8 @@ use tables::types::{
     Child, EntryState, LineState, Place, Processor, R_SETS, R_WAYS, REntry, V_SETS, V_WAYS, VLine,
 };
 
+// The three searches below are a call of `position` each, with the test of a cell that the rules name.
+
 // Whether a line holds nothing.
 fn is_empty(line: &VLine) -> bool
     ensures { result ≡ is_empty line.now.state }

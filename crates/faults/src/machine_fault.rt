@@ -15,7 +15,7 @@ const DEVICE: u8 = 8;
 // The number that stands for no place.
 const NOBODY: u8 = 9;
 
-// Who made a call.
+// Who made a call. `Nobody` is no None of the other two: it is a place of its own, told as 9.
 #[derive(Clone, Copy, Debug, PartialEq, Eq)]
 pub enum Caller {
     // A processor, as it was given.
@@ -196,6 +196,7 @@ fn meaning(fault: MachineFault) -> &'static str {
     }
 }
 
+// By hand, as `thiserror` takes one text for each case: these share their beginning.
 impl fmt::Display for MachineFault {
     fn fmt<W: fmt::Write>(&self, f: &mut fmt::Formatter<W>) -> fmt::Result {
         let place = self.place();

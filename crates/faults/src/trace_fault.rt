@@ -64,6 +64,7 @@ impl From<FormatFault> for TraceFault {
     }
 }
 
+// By hand, beside the fault trait whose impl it stands with: a derive would write the same two texts.
 impl fmt::Display for TraceFault {
     fn fmt<W: fmt::Write>(&self, f: &mut fmt::Formatter<W>) -> fmt::Result {
         match self {

@@ -115,10 +115,6 @@ abbrev pub Items : Type 0
 Items = List (Result (ℕ × Record) FormatFault)
 
 module _ {M S V R : Type 0} (m : maps.Ghosts M) (s : memories.Ghosts S) (v : replacements.Ghosts V) (u : replacements.Ghosts R) (x₀ : Machine M S V R) (c : Setup) (out₀ : List ℕ) (items : Items) where
-  -- nothing was run yet
-  pub starts : (h : History) → HasPast m s v u c h x₀ → Going m s v u x₀ x₀ c out₀ items out₀ items
-  starts h p = record { history = h; past = p; rules = refl; listed = refl }
-
   -- one record more
   pub goes_on : (x y : Machine M S V R) (out out' : List ℕ) (n : ℕ) (r : Record) (left : Items) (line : Line) (q : Result Line TraceFault) → Plays m s v u r x y (Lists n r q) → line ≡ line_for n q → out' ≡ out ++ line_bytes line
       → Going m s v u x₀ x c out₀ items out (Ok (n, r) ∷ left) → Going m s v u x₀ y c out₀ items out' left

@@ -82,6 +82,8 @@ impl<M: Map, S: Memory, V: Rule, R: Rule> Machine<M, S, V, R> {
         }
     }
 
+    // `held`, `number` and `setup` are clauses of their own here and in the transfers: each caller names the one it needs.
+
     // Whether a transfer of a block, with a slice of so many words, can be accepted.
     fn check_transfer(
         &mut self,

@@ -19,7 +19,7 @@ use tables::types::{Place, R_SETS, R_WAYS, REntry, V_SETS, V_WAYS, VLine};
 impl<M: Map, S: Memory, V: Rule, R: Rule> Machine<M, S, V, R> {
     // This call and the next differ in the table and in what the cell is: what they share is `locate_place`.
 
-    // A line of the V-cache.
+    // A line of the V-cache. Set and way are as a reader gives them, in the table or not.
     pub fn line(
         &self,
         processor: ProcessorNumber,

@@ -32,7 +32,7 @@ impl<'a> WordMemory<'a> {
         words
     }
 
-    // The words of a block that is there.
+    // The words of a block that is there, by their place in the slice, as `store` replaces them.
     fn fetch(&self, number: u16) -> Words
         requires { number < whole_blocks self.now.words.now }
         ensures { result ≡ block_at self.now.words.now number }

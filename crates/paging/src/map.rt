@@ -5,7 +5,8 @@ use crate::fault::MapFault;
 use base::block::{Frame, Page, PhysicalBlock, Process, VirtualBlock};
 use base::size::{PAGE_BLOCKS, PAGES, PROCESSES};
 
-// From the pages of processes to frames.
+// From the pages of processes to frames. Process and page stay two parameters of each call: a struct of both would be taken
+// apart in each body.
 pub trait Map {
     // By process and page, a frame or none.
     ghost frame: { Self → ℕ → ℕ → Option ℕ };

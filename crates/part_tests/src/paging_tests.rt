@@ -9,6 +9,7 @@ use paging::table::FlatTable;
 use std::process::Abort;
 use std::test::Fail;
 
+// The numbers, and not the faults, since they are what is tested.
 const NO_FRAME: u8 = 6;
 
 const OUT_OF_RANGE: u8 = 9;

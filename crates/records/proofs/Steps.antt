@@ -1,4 +1,4 @@
--- How a trace goes on record by record: for loops that decode one record a turn.
+-- How a trace goes on record by record.
 use Rattle.std.proofs.Common.{◌≡◌, ℕ, zero, suc, ◌+◌, ◌<◌, ◌≤◌, Bool, List, [], ◌∷◌, ◌++◌, length, Ok, Err, Result, sym, refl, ap, ◌∙◌, arith}
 use Rattle.records.specs.Records.{decoded, record_by, record_of, checked_kind, kind_of, write_of, device_write_of}
 use Rattle.records.specs.Traces.{Trace, carried, ended, in_front, stopped, trace_from}
@@ -68,19 +68,6 @@ trace_more n l (w ∷ ws) rest r e =
     let f : List ℕ → Trace = λ x. trace_from (length ws) (n + 1) l x in
     sym (ap (λ (d : Result (Record × List ℕ) FormatFault). carried d f) e)
     ∙ ap (λ (t : Trace). in_front r t) (trace_fuel (length ws) (n + 1) l rest (omega arith))
-
--- at a fault it stops
-pub trace_stops : (n : ℕ) (l : Bool) (ws : List ℕ) (e : FormatFault) → 0 < length ws → Err e ≡ decoded n ws
-    → trace_from (length ws) n l ws ≡ stopped e
-trace_stops n l [] e h d = absurd (omega arith)
-trace_stops n l (w ∷ ws) e h d =
-    let f : List ℕ → Trace = λ x. trace_from (length ws) (n + 1) l x in
-    sym (ap (λ (q : Result (Record × List ℕ) FormatFault). carried q f) d)
-
--- with no words left it ends, with a fault where bytes are left over
-pub trace_ends : (n : ℕ) (l : Bool) (ws : List ℕ) → length ws ≡ 0 → trace_from (length ws) n l ws ≡ ended n l
-trace_ends n l [] h = refl
-trace_ends n l (w ∷ ws) h = absurd (omega arith)
 
 -- a trace behind the records that were read before it
 abbrev pub behind : List Record → Trace → Trace

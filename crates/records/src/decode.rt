@@ -129,6 +129,7 @@ fn device_read(first: u32) -> Record
 }
 
 // A write at the front of the words: two words. docs/DECISIONS.md fixes a pattern over the words for each kind.
+#[tactic(auto, using(crate::proofs::Fronts::write_front))]
 fn write(words: &[u32], record: u32) -> Result<(Record, &[u32]), FormatFault>
     ensures { seen result ≡ at_front «record» (write_of «record») words.now }
 {
@@ -146,6 +147,7 @@ fn write(words: &[u32], record: u32) -> Result<(Record, &[u32]), FormatFault>
 }
 
 // A device write at the front of the words: five words.
+#[tactic(auto, using(crate::proofs::Fronts::device_write_front))]
 fn device_write(words: &[u32], record: u32) -> Result<(Record, &[u32]), FormatFault>
     ensures { seen result ≡ at_front «record» (device_write_of «record») words.now }
 {

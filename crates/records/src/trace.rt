@@ -66,6 +66,7 @@ pub fn read_trace(heap: Global, bytes: &[u8]) -> Result<Vec<Record>, TraceError>
     }
     let words = words_of(heap, bytes)?;
     let mut records = Vec::new(heap);
+    // No `collect`: into a Result it would not say at which record it fails.
     for next in Records::new(&words, bytes.len() % 4 != 0)? {
         let (_, record) = next?;
         records.push(record)?;

@@ -8,7 +8,8 @@ pub struct Found {
     pub level: Level,
 }
 
-// The ways that were freed for a block, and the entry that went.
+// The ways that were freed for a block, and the entry that went. Ways, and not places: their sets are those of the blocks
+// that the caller asked for.
 #[derive(Clone, Copy)]
 pub struct Room {
     pub line_way: usize,

@@ -14,6 +14,7 @@ pub fn mapped_pages<M: Map>(heap: Global, map: &mut M) -> Result<Vec<MappedPage>
     ensures rows { M.Map.sound map.old → IfOk result (λ v. v.items ≡ mapped (M.Map.frame map.old)) }
 {
     let mut rows = Vec::new(heap);
+    // The numbers are what is gone through: as processes and pages first, the proof of the loops would not have them.
     for p in 0..PROCESSES {
         for g in 0..PAGES {
             let (process, page) = (Process(p), Page(g));

@@ -1,9 +1,9 @@
 use crate::support::{bytes_of, told};
 use base::block::{Frame, Page, Process};
+use paging::mapped::MappedPage;
 use std::alloc::Global;
 use std::process::Abort;
 use std::test::Fail;
-use paging::mapped::MappedPage;
 use trace_map::pages::{mapped_pages, sharers};
 use trace_map::trace::{Counts, map_of_trace};
 

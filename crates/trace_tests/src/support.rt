@@ -22,7 +22,8 @@ pub fn told(rt: &impl Abort, error: TraceError) -> Result<(u8, usize), Fail> {
     Ok((fault.number(), fault.place() as usize))
 }
 
-// Checks how a trace reads: 0 and the count of its records, or the number and the record of its refusal.
+// Checks how a trace reads: 0 and the count of its records, or the number and the record of its refusal. Pairs of numbers,
+// and no Result, so that the cases of a table stay short.
 pub fn reads(rt: &impl Abort, heap: Global, bytes: &[u8], wanted: (u8, usize)) -> Result<(), Fail> {
     let found = read_trace(heap, bytes)
         .map(|records| (0, records.len()))

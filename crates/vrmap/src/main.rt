@@ -2,12 +2,12 @@
 
 use base::block::Frame;
 use base::size::FRAMES;
+use paging::mapped::MappedPage;
 use records::trace::{TRACE_BYTES, TraceError};
 use std::alloc::{AllocError, Global};
 use std::io::{self, Read, Write};
 use std::process::ExitCode;
 use thiserror::Error;
-use paging::mapped::MappedPage;
 use trace_map::pages::{mapped_pages, sharers};
 use trace_map::trace::{Counts, map_of_trace};
 
@@ -41,11 +41,13 @@ fn write_pages(text: &mut String, rows: &[MappedPage]) -> Result<(), Failure> {
 // The pages that share one frame, some to a line.
 fn write_sharers(text: &mut String, frame: Frame, rows: &[MappedPage]) -> Result<(), Failure> {
     write!(text, "{:>5}", frame.0)?;
-    for (i, row) in rows.iter().enumerate() {
-        if i > 0 && i % SHARERS_A_LINE == 0 {
+    for (i, line) in rows.chunks(SHARERS_A_LINE).enumerate() {
+        if i > 0 {
             text.push_str("\n     ")?;
         }
-        write!(text, "  {}:{:02}", row.process.0, row.page.0)?;
+        for row in line {
+            write!(text, "  {}:{:02}", row.process.0, row.page.0)?;
+        }
     }
     text.push_str("\n")?;
     Ok(())
