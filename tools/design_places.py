@@ -15,7 +15,7 @@ HITS = {
     "1": [
         ("number for a kind", r"\b(sender|supplier): u8\b|const (DEVICE|MEMORY|NO_DATA|NOBODY): u8|\bfn kind\(word: u32\)"),
         ("flag beside a value", r"\backed: bool\b|\bloose: bool\b|\bexclusive: bool\b|\bvdirty: bool\b"),
-        ("arm that hands on", r"^\s*(Ok\((\(\)|[a-z]+)\) => (Ok\(|\{\}|[a-z]+,)|Err\(_\) => (Err\(|unreachable)|Err\([a-z]+\) => Err\(|None => (None|Ok|Err|false|0)\b|Some\(.*\) => (Some\(|Err\(|Ok\(|true\b|[a-z]+,))"),
+        ("arm that forwards", r"^\s*(Ok\((\(\)|[a-z]+)\) => (Ok\(|\{\}|[a-z]+,)|Err\(_\) => (Err\(|unreachable)|Err\([a-z]+\) => Err\(|None => (None|Ok|Err|false|0)\b|Some\(.*\) => (Some\(|Err\(|Ok\(|true\b|[a-z]+,))"),
         ("let else that refuses", r"let (Some|Ok)\(.*\) = .* else \{"),
         ("match to a flag", r"=> (true|false),$"),
     ],
@@ -30,7 +30,7 @@ HITS = {
         ("equality by parts", r"\.0 == |\.0 != |\.number\(\) == |\.number\(\) != "),
         ("conversion by a function", r"pub fn (number\(self\)|new\((number|word): u16\)|kind\(word)|pub fn (word|place)\(self\) -> u32"),
         ("From, TryFrom or Display by hand", r"^impl.* (From|TryFrom)<.*> for |^impl.* fmt::Display for "),
-        ("copied field by field", r"let \w+ = \w+\.(words|messages|process\.0|page\.0|frame\.0);|let \w+\([a-z]+\) = self;"),
+        ("copied part by part", r"let \w+ = \w+\.(words|messages|process\.0|page\.0|frame\.0);|let \w+\([a-z]+\) = self;"),
         ("printed by hand", r"\bdigit\("),
     ],
     "5": [
