@@ -1,0 +1,4 @@
+#![tactic(auto)]
+
+pub mod back;
+pub mod two_pages;
