@@ -1,4 +1,5 @@
 #![tactic(auto)]
 
+pub mod anew;
 pub mod back;
 pub mod two_pages;
