@@ -1,5 +1,5 @@
 -- The latest write to the word that is read back, from the history alone.
-use Rattle.std.proofs.Common.{◌≡◌, ℕ, ◌/◌, ◌%◌, Bool, eqb, [], ◌∷◌, ◌++◌, Some, Option, sym, refl, ap, ◌∙◌, arith, eq-eqb}
+use Rattle.std.proofs.Common.{◌≡◌, ℕ, ◌%◌, Bool, eqb, [], ◌∷◌, ◌++◌, Some, Option, sym, refl, ap, ◌∙◌, arith, eq-eqb}
 use Rattle.base.specs.Blocks.{block_of, page_of}
 use Rattle.base.specs.Sizes.{block_words}
 use Rattle.rules.specs.Basic.{pick}
@@ -17,8 +17,8 @@ use Rattle.client.specs.Back.{SameWord, before_read}
 pub block_at : (u : Setup) (g : History) (i q f a : ℕ) → process_at g i ≡ q → table_at u g q (page_of (block_of a)) ≡ Some f → physical_block u g i a ≡ Some (physical f (block_of a))
 unfolding page_blocks
 block_at u g i q f a p t =
-    ap {B = Option ℕ} (λ (z : ℕ). physical_by (table_at u g z (a / block_words / 8)) (a / block_words)) p
-    ∙ ap {B = Option ℕ} (λ (z : Option ℕ). physical_by z (a / block_words)) t
+    ap {B = Option ℕ} (λ (z : ℕ). physical_by (table_at u g z (page_of (block_of a))) (block_of a)) p
+    ∙ ap {B = Option ℕ} (λ (z : Option ℕ). physical_by z (block_of a)) t
 
 -- a processor that went over to q runs q, and a page that was entered has its frame
 went : (i q z : ℕ) → pick (eqb i i) q z ≡ q
@@ -32,9 +32,9 @@ stored : (u : Setup) (o : Option ℕ) (a x n b : ℕ) (f : ℕ → ℕ) → o �
 stored u o a x n b f e m = ap (λ (z : Option ℕ). stored_at u z a x f n) e ∙ ap (λ (t : Bool). pick t x (f n)) (eq-eqb n (word_in b (a % block_words)) m)
 
 -- two addresses of the same word of their pages, at one frame
-same_word : (f a b c : ℕ) → a % 32 ≡ b % 32 → c ≡ physical f (block_of b) → word_in c (b % block_words) ≡ word_in (physical f (block_of a)) (a % block_words)
+same_word : (f c : ℕ) (at : TwoPages) → SameWord at → c ≡ physical f (block_of at.second) → word_in c (at.second % block_words) ≡ word_in (physical f (block_of at.first)) (at.first % block_words)
 unfolding page_blocks
-same_word f a b c e d = omega arith
+same_word f c at e d = omega arith
 
 some : {b c : ℕ} → ◌≡◌ {A = Option ℕ} (Some b) (Some c) → b ≡ c
 some e = cc
@@ -55,4 +55,4 @@ read_word u h i at o x wrote read L e =
     let same = some (sym l.1 ∙ there) in
     latest_word u all (word_in l.0 (at.second % block_words)) read.word l.2
     ∙ stored u (physical_block u start i at.first) at.first x (word_in l.0 (at.second % block_words)) (physical f (block_of at.first)) (word_at u start) here
-    (same_word f at.first at.second l.0 e same)
+    (same_word f l.0 at e same)
