@@ -14,7 +14,7 @@ use Rattle.machine.specs.Refusals.{Accepts, Refuses}
 use Rattle.machine.specs.State.{HasPast, Performed, board, rules_of}
 use Rattle.machine.specs.declared.machine.Machine.{Machine}
 use Rattle.client.specs.declared.two_pages.TwoPages.{TwoPages}
-use Rattle.client.specs.Back.{CutShort, Outcome, calls, first_refusal}
+use Rattle.client.specs.Back.{CutShort, Outcome, board_after, board_by, calls, first_refusal}
 
 -- the event of an accepted call
 event_is : (c : Call) (n : ℕ) (a : Answer) → n ≡ 0 → event_by n c a ≡ accepted c a
@@ -37,6 +37,22 @@ stops : (rs : Rules) (c : Call) (cs : List Call) (st : Board) → 0 < (perform r
 unfolding first_refusal
 stops rs c cs st l = own_number (perform rs c st).number (first_refusal rs cs (perform rs c st).after) l
 
+goes_on : (rs : Rules) (c : Call) (cs : List Call) (st : Board) → (perform rs c st).number ≡ 0 → board_after rs (c ∷ cs) st ≡ board_after rs cs (perform rs c st).after
+unfolding board_after
+goes_on rs c cs st e = ap (λ (n : ℕ). board_by n (perform rs c st).after (board_after rs cs (perform rs c st).after)) e
+
+own_board : (n : ℕ) (a b : Board) → 0 < n → board_by n a b ≡ a
+own_board zero a b l = absurd (omega arith)
+own_board (suc n) a b l = refl
+
+stays : (rs : Rules) (c : Call) (cs : List Call) (st : Board) → 0 < (perform rs c st).number → board_after rs (c ∷ cs) st ≡ (perform rs c st).after
+unfolding board_after
+stays rs c cs st l = own_board (perform rs c st).number (perform rs c st).after (board_after rs cs (perform rs c st).after) l
+
+pub there : (rs : Rules) (st : Board) → board_after rs [] st ≡ st
+unfolding board_after
+there rs st = refl
+
 pub none_left : (rs : Rules) (st : Board) → first_refusal rs [] st ≡ 0
 unfolding first_refusal
 none_left rs st = refl
@@ -47,10 +63,11 @@ module _ {M S V R : Type 0} (m : maps.Ghosts M) (s : memories.Ghosts S) (v : rep
   pub record Going (u : Setup) (h : History) (x : Machine M S V R) (all : List Call) (es : History) (y : Machine M S V R) (left : List Call) : Type 0 where
     pub past : HasPast m s v r u (es ++ h) y
     pub number : first_refusal (rules_of m s v r x) all (board m s v r x) ≡ first_refusal (rules_of m s v r y) left (board m s v r y)
+    pub reached : board_after (rules_of m s v r x) all (board m s v r x) ≡ board_after (rules_of m s v r y) left (board m s v r y)
 
 module _ {M S V R : Type 0} {m : maps.Ghosts M} {s : memories.Ghosts S} {v : replacements.Ghosts V} {r : replacements.Ghosts R} where
   pub begin : {u : Setup} {h : History} {x : Machine M S V R} (all : List Call) → HasPast m s v r u h x → Going m s v r u h x all [] x all
-  begin all p = record { past = p; number = refl }
+  begin all p = record { past = p; number = refl; reached = refl }
 
   module _ {u : Setup} {h : History} {x : Machine M S V R} {all : List Call} {es : History} {y : Machine M S V R} {c : Call} {left : List Call} {d : Call} {z : Machine M S V R} where
     -- the next call is accepted
@@ -62,6 +79,7 @@ module _ {M S V R : Type 0} {m : maps.Ghosts M} {s : memories.Ghosts S} {v : rep
         record {
           past = subst (λ (w : Event). HasPast m s v r u (w ∷ (es ++ h)) z) (answered d c (perform rs d st) a D.told e) D.past;
           number = G.number ∙ ap (λ (w : Call). first_refusal rs (w ∷ left) st) (sym e) ∙ passes rs d left st D.told.number ∙ (λ j. first_refusal (sym D.rules j) left (sym D.after j));
+          reached = G.reached ∙ ap (λ (w : Call). board_after rs (w ∷ left) st) (sym e) ∙ goes_on rs d left st D.told.number ∙ (λ j. board_after (sym D.rules j) left (sym D.after j));
         }
 
     -- and then the laws hold
@@ -81,6 +99,7 @@ module _ {M S V R : Type 0} {m : maps.Ghosts M} {s : memories.Ghosts S} {v : rep
         let n = D.told.number in
         record {
           refused = n ∙ sym (G.number ∙ ap (λ (w : Call). first_refusal rs (w ∷ left) st) (sym e) ∙ stops rs d left st (subst (λ (k : ℕ). 0 < k) n l));
+          reached = D.after ∙ sym (G.reached ∙ ap (λ (w : Call). board_after rs (w ∷ left) st) (sym e) ∙ stays rs d left st (subst (λ (k : ℕ). 0 < k) n l));
           happened = event d (perform rs d st) ∷ es;
           past = D.past;
         }

@@ -1,5 +1,5 @@
 -- A word written through one page of a process and read back through another.
-use Rattle.std.specs.Prelude.{◌≡◌, ℕ, ◌*◌, ◌%◌, List, [], ◌∷◌, ◌++◌, Ok, Err, Result}
+use Rattle.std.specs.Prelude.{◌≡◌, ℕ, zero, suc, ◌*◌, ◌%◌, List, [], ◌∷◌, ◌++◌, Ok, Err, Result}
 use Rattle.base.specs.Blocks.{block_of, page_of}
 use Rattle.base.specs.Sizes.{block_words, page_blocks}
 use Rattle.memory.specs.declared.memory.Memory as memories
@@ -46,6 +46,15 @@ unfoldable pub first_refusal : Rules → List Call → Board → ℕ
 first_refusal rs [] st = 0
 first_refusal rs (c ∷ cs) st = let d = perform rs c st in or_next d.number (first_refusal rs cs d.after)
 
+-- the board after some calls, where the first refused is the last
+abbrev pub board_by : ℕ → Board → Board → Board
+board_by zero there further = further
+board_by (suc n) there further = there
+
+unfoldable pub board_after : Rules → List Call → Board → Board
+board_after rs [] st = st
+board_after rs (c ∷ cs) st = let d = perform rs c st in board_by d.number d.after (board_after rs cs d.after)
+
 -- the two addresses are of the same word of their pages
 abbrev pub SameWord : TwoPages → Type 0
 SameWord at = at.first % (page_blocks * block_words) ≡ at.second % (page_blocks * block_words)
@@ -54,6 +63,7 @@ module _ {M S V R : Type 0} (m : maps.Ghosts M) (s : memories.Ghosts S) (v : rep
   -- all calls were accepted: their events made the past longer, and the word read is the word written
   pub record ReadBack (i : ℕ) (at : TwoPages) (o x : ℕ) (u : Setup) (h : History) (before after : Machine M S V R) (word : ℕ) : Type 0 where
     pub accepted : first_refusal (rules_of m s v r before) (calls i at o x) (board m s v r before) ≡ 0
+    pub reached : board m s v r after ≡ board_after (rules_of m s v r before) (calls i at o x) (board m s v r before)
     pub wrote : Answer
     pub read : Answer
     pub past : HasPast m s v r u (events i at o x wrote read ++ h) after
@@ -63,6 +73,7 @@ module _ {M S V R : Type 0} (m : maps.Ghosts M) (s : memories.Ghosts S) (v : rep
   -- a call was refused, the first with this fault: the past is longer all the same
   pub record CutShort (i : ℕ) (at : TwoPages) (o x : ℕ) (u : Setup) (h : History) (before after : Machine M S V R) (fault : MachineFault) : Type 0 where
     pub refused : fault_number fault ≡ first_refusal (rules_of m s v r before) (calls i at o x) (board m s v r before)
+    pub reached : board m s v r after ≡ board_after (rules_of m s v r before) (calls i at o x) (board m s v r before)
     pub happened : History
     pub past : HasPast m s v r u (happened ++ h) after
 

@@ -1,9 +1,9 @@
 -- The calls one after another: the first that is refused ends them; where none is, the laws give the word.
-use Rattle.std.proofs.Common.{ℕ, refl, ap, ◌∙◌}
+use Rattle.std.proofs.Common.{ℕ, sym, refl, ap, ◌∙◌}
 use Rattle.rules.specs.Run.{entering}
 use Rattle.machine.specs.Answers.{access_answer}
 use Rattle.client.specs.Back.{calls}
-use Rattle.client.proofs.Calls.{begin, lawful, next, none_left, refused}
+use Rattle.client.proofs.Calls.{begin, lawful, next, none_left, refused, there}
 use Rattle.client.proofs.Words.{read_word}
 use Rattle.client.proofs.back.write_and_read_back.Goals as goal
 
@@ -87,4 +87,4 @@ returns g c = λ u h p.
     let laws = lawful six (c.in_ok-access.ensures u _) refl in
     let wrote = access_answer c.in_ok-write.field-0 in
     let read = access_answer c.in_ok-access.access in
-    record { accepted = seven.number ∙ none_left _ _; wrote = wrote; read = read; past = seven.past; answered = refl; same = read_word u h c.args.processor.0 c.args.at c.args.other.0 c.args.value wrote read laws.reads }
+    record { accepted = seven.number ∙ none_left _ _; reached = sym (seven.reached ∙ there _ _); wrote = wrote; read = read; past = seven.past; answered = refl; same = read_word u h c.args.processor.0 c.args.at c.args.other.0 c.args.value wrote read laws.reads }
