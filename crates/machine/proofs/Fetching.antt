@@ -26,7 +26,7 @@ use Rattle.bus.proofs.Loops.{fetch_snooped}
 use Rattle.machine.proofs.Ending.{answered_at, finished_at}
 use Rattle.steps.specs.declared.found.Room.{Room}
 use Rattle.steps.specs.Steps.{Rooms, child_freed, installed, line_freed, next_entry}
-use Rattle.steps.proofs.Rooming.{child_counts, free_counts}
+use Rattle.rules.proofs.Fetched.{free_child_counts, free_counts}
 use Rattle.rules.specs.Sizes.{most_processors, r_sets, v_sets}
 use Rattle.rules.specs.Bus.{Blocks, Passed, memory, message, proc_at, from_cpu}
 use Rattle.rules.specs.Cache.{entry_at, evict, evict_by, is_absent, line_at, r_find, v_way}
@@ -149,7 +149,7 @@ module _ {M S V R : Type 0} (m : maps.Ghosts M) (s : memories.Ghosts S) (v : rep
 
   counts_kept : (p_e.counts.fetched ≡ p.counts.fetched) × (p_e.counts.invalidated ≡ p.counts.invalidated)
   counts_kept =
-      let cs : p₂.counts ≡ p.counts = child_counts (line_freed (rules_of m s v u x).for_v (rules_of m s v u x).for_r p t h) (entry_at (line_freed (rules_of m s v u x).for_v (rules_of m s v u x).for_r p t h) h k).child ∙ free_counts p t way in
+      let cs : p₂.counts ≡ p.counts = free_child_counts (line_freed (rules_of m s v u x).for_v (rules_of m s v u x).for_r p t h) (entry_at (line_freed (rules_of m s v u x).for_v (rules_of m s v u x).for_r p t h) h k).child ∙ free_counts p t way in
       let ev = evict_fetched p₂ h k in
       (ev.0 ∙ ap (λ (z : Counts). z.fetched) cs, ev.1 ∙ ap (λ (z : Counts). z.invalidated) cs)
 

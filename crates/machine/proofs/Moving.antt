@@ -20,6 +20,7 @@ use Rattle.rules.specs.Run.{Call, device_reading, device_writing, perform, relea
 use Rattle.rules.specs.History.{Event, History, Nothing, Setup, event, event_by}
 use Rattle.rules.specs.Laws.{Laws}
 use Rattle.rules.specs.Listing.{played, transfer_by}
+use Rattle.rules.proofs.Printed.{release_idle, take_idle}
 use Rattle.machine.specs.Refusals.{Refuses, take_fault, transfer_fault}
 use Rattle.machine.specs.State.{HasPast, Performed, board, rules_of}
 use Rattle.machine.specs.Transfers.{BlockReads, BlockWrites, DeviceReads, DeviceWrites, Moved, block_fault, events_by, moving_events, moving}
@@ -66,14 +67,6 @@ read_played rs b st = refl
 pub write_played : (rs : Rules) (b : PhysicalBlock) (ws : List ℕ) (st : Board) → moving rs (λ t. device_writing t b.0 ws) st ≡ played rs (DeviceWrite b ws) st
 write_played rs b ws st = refl
 
-nothing_taken : (n : ℕ) (r : Answer) → event_by n taking r ≡ Nothing
-nothing_taken zero r = refl
-nothing_taken (suc n) r = refl
-
-nothing_released : (n t : ℕ) (r : Answer) → event_by n (releasing t) r ≡ Nothing
-nothing_released zero t r = refl
-nothing_released (suc n) t r = refl
-
 module _ {M S V R : Type 0} (m : maps.Ghosts M) (s : memories.Ghosts S) (v : replacements.Ghosts V) (r : replacements.Ghosts R) (asked : ℕ → Call) (u : Setup) (h : History) (x : Machine M S V R) where
   abbrev st : Board
   st = board m s v r x
@@ -96,7 +89,7 @@ module _ {M S V R : Type 0} (m : maps.Ghosts M) (s : memories.Ghosts S) (v : rep
       go (suc k) en =
           let step : take st ≡ moving rs asked st = λ j. transfer_by (sym en j) move (take st) in
           let past : event taking (take st) ∷ h ≡ moving_events rs asked st ++ h =
-          (λ j. nothing_taken (take st).number (take st).answer j ∷ h) ∙ ap (λ (z : ℕ). events_by z move_event ++ h) (sym en) in
+          (λ j. take_idle (take st).number (take st).answer j ∷ h) ∙ ap (λ (z : ℕ). events_by z move_event ++ h) (sym en) in
           record {
             told = subst T step t;
             after = P.after ∙ ap (λ (z : Step). z.after) step;
@@ -123,7 +116,7 @@ module _ {M S V R : Type 0} (m : maps.Ghosts M) (s : memories.Ghosts S) (v : rep
       let back : board m s v r x₂ ≡ (move st₁).after = P₁.after ∙ ap (λ (z : Step). z.after) made in
       let d₂ = release (board m s v r x₂) t in
       let past : event (releasing t) d₂ ∷ event (asked t) d₁ ∷ event taking (take st) ∷ h ≡ moving_events rs asked st ++ h =
-      (λ j. nothing_released d₂.number t d₂.answer j ∷ event (asked (at j)) (made j) ∷ nothing_taken (take st).number (take st).answer j ∷ h) ∙ ap (λ (z : ℕ). events_by z move_event ++ h) (sym en) in
+      (λ j. release_idle d₂.number t d₂.answer j ∷ event (asked (at j)) (made j) ∷ take_idle (take st).number (take st).answer j ∷ h) ∙ ap (λ (z : ℕ). events_by z move_event ++ h) (sym en) in
       record {
         told = tells d₁ (moving rs asked st) (sym (ap (λ (z : Step). z.number) step) ∙ sym (ap (λ (z : Step). z.number) made)) (sym (ap (λ (z : Step). z.answer) step) ∙ sym (ap (λ (z : Step). z.answer) made)) P₁.told;
         after = P₂.after ∙ (λ j. (release (back j) (at j)).after) ∙ ap (λ (z : Step). z.after) step;

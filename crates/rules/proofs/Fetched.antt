@@ -107,7 +107,7 @@ read_length (suc i) sender b q = go (eqb i sender) ∙ read_length i sender b q
         ap length (noted_procs (seen_by (r_find p b) b p) b i (set r.procs i (shared_by (r_find p b) b p)) r) ∙ length-set r.procs i (shared_by (r_find p b) b p)
 
 -- one processor's own steps
-free_counts : (p : Processor) (s w : ℕ) → (free_line p s w).counts ≡ p.counts
+pub free_counts : (p : Processor) (s w : ℕ) → (free_line p s w).counts ≡ p.counts
 free_counts p s w = go (line_at p s w).state
   where
     go : (c : LineState) → (free_line_by c p s w (line_at p s w)).counts ≡ p.counts
@@ -115,7 +115,7 @@ free_counts p s w = go (line_at p s w).state
     go Valid = refl
     go Swapped = refl
 
-free_child_counts : (p : Processor) (c : Child) → (free_child p c).counts ≡ p.counts
+pub free_child_counts : (p : Processor) (c : Child) → (free_child p c).counts ≡ p.counts
 free_child_counts p NoChild = refl
 free_child_counts p (At q d) = free_counts p q.set q.way
 

@@ -17,7 +17,7 @@ use Rattle.rules.specs.Invariant.{Present, placed}
 use Rattle.rules.specs.Sound.{ProcOk, Inv, InvOf, Clean, Lacks, translate}
 use Rattle.rules.proofs.Cells.{But, place_dec, empty_filled, but_line, but_entry}
 use Rattle.rules.proofs.Ops.{free_line_lem, fetch, fill}
-use Rattle.rules.proofs.Whole.{inv_set, inv_sub, inv_same, Same, Sub, same_sub, same_clean, same_trans, put_same, Runs, runs_set}
+use Rattle.rules.proofs.Whole.{inv_set, inv_sub, inv_same, Same, Sub, same_sub, same_clean, same_trans, put_same, Runs, runs_set, private_present}
 use Rattle.rules.proofs.Steps.{go_same, fill_same}
 use Rattle.rules.proofs.Seek.{r_lacks}
 use Rattle.rules.proofs.Attach.{ok_tables, v_way_range, free_line_empty, free_line_process}
@@ -118,9 +118,6 @@ inv_fetch n table f mem ps i h k y p lt I ab m ok calm alone = inv_set n table f
         let pv' : y.state ≡ Private = rw (z.0, z.1, m.same) at pv in
         rw (z.0, z.1, m.same) (alone pv' j ne)
     out s w pv j ne (no nz) = let o = m.other s w nz in rw o (λ a b q e. I.apart i j (λ z. ne (sym z)) s w a b (rw o at pv) q (sym e))
-
-    private_present : (e : REntry) → e.state ≡ Private → Present e
-    private_present e h = rw h
 
     come : (s w : ℕ) → Present (entry_at p s w) → (j : ℕ) → (j ≡ i → ⊥) → (a b : ℕ) → (entry_at (proc_at ps j) a b).state ≡ Private → (entry_at (proc_at ps j) a b).block.0 ≡ (entry_at p s w).block.0 → Dec ((s ≡ h) × (w ≡ k)) → ⊥
     come s w q j ne a b pv e (yes z) = shared_private (entry_at (proc_at ps j) a b).state (calm j ne a b (private_present (entry_at (proc_at ps j) a b) pv) (rw (z.0, z.1, m.same) at e)) pv

@@ -23,6 +23,12 @@ use Rattle.rules.proofs.Cells.{empty_filled, but_line, but_entry, shaped_line, s
 use Rattle.rules.proofs.Change.{NewLine}
 use Rattle.rules.proofs.Changes.{change_nil, change_cut, change_keep, change_tie, change_move}
 
+pub swap_or : (a b : Bool) → ((a || b) || false) ≡ (b || a)
+swap_or true true = refl
+swap_or true false = refl
+swap_or false true = refl
+swap_or false false = refl
+
 module _ (T : ℕ → Option ℕ) (f : Blocks) (p : Processor) (O : ProcOk T f p) where
   -- what is present or filled stands in the table
   pub present_range : (s w : ℕ) → Present (entry_at p s w) → (s < r_sets) × (w < r_ways)
@@ -120,12 +126,6 @@ module _ (T : ℕ → Option ℕ) (f : Blocks) (p : Processor) (O : ProcOk T f p
       words : (d : Bool) (l : VLine) (e : REntry) → EntryOk r_sets f (line_at p s w).rplace.set e → LineOk T f s w l e → l.dirty ≡ d → pick d l.words e.words ≡ f e.block.0
       words true l e eo lo x = lo.words
       words false l e eo lo x = eo.words (ap vdirty_of lo.up ∙ x)
-
-      swap_or : (a b : Bool) → ((a || b) || false) ≡ (b || a)
-      swap_or true true = refl
-      swap_or true false = refl
-      swap_or false true = refl
-      swap_or false false = refl
 
       ok : (l : VLine) (e : REntry) → EntryOk r_sets f (line_at p s w).rplace.set e → LineOk T f s w l e → EntryOk r_sets f (line_at p s w).rplace.set (unlinked e l)
       ok l e eo lo =

@@ -174,11 +174,11 @@ pub record Shows (s : Setup) (g : History) (r : Record) (l : Line) (st : Board) 
   pub fine : Fine s history st
   pub alike : Alike s history (did r l ∷ g)
 
-take_idle : (k : ℕ) (x : Answer) → event_by k taking x ≡ Nothing
+pub take_idle : (k : ℕ) (x : Answer) → event_by k taking x ≡ Nothing
 take_idle zero x = refl
 take_idle (suc k) x = refl
 
-release_idle : (k t : ℕ) (x : Answer) → event_by k (releasing t) x ≡ Nothing
+pub release_idle : (k t : ℕ) (x : Answer) → event_by k (releasing t) x ≡ Nothing
 release_idle zero t x = refl
 release_idle (suc k) t x = refl
 

@@ -14,7 +14,7 @@ use Rattle.rules.specs.Invariant.{Filled, Present}
 use Rattle.rules.specs.Sound.{ProcOk, Inv, InvOf, Clean, translate, physical_by}
 use Rattle.rules.proofs.Cells.{But}
 use Rattle.rules.proofs.Ops.{rplace_present, store}
-use Rattle.rules.proofs.Whole.{inv_set, Sub}
+use Rattle.rules.proofs.Whole.{inv_set, Sub, private_present}
 use Rattle.rules.proofs.Steps.{but_present, sub_but, clean_but}
 use Rattle.rules.proofs.Passes.{put_here, put_else}
 use Rattle.rules.proofs.Hits.{ReachOk, v_hit_ok, r_hit_ok, valid_filled}
@@ -110,9 +110,6 @@ module _ (f : Blocks) (st : Board) (r : Ref) (a : Reached) (R : ReachOk f st r a
 
     marked_is : modified y ≡ true
     marked_is = rw (O.sound.lines a.set a.way full).up (or_true (entry_at p h k).rdirty)
-
-    private_present : (e : REntry) → e.state ≡ Private → Present e
-    private_present e h = rw h
 
     pub write_inv : Inv a.at.cpus a.at.table g a.at.mem (set a.at.procs i p')
     write_inv = inv_set a.at.cpus a.at.table f g a.at.mem a.at.mem a.at.procs i p' lt' R.inv ok

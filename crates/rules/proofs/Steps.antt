@@ -10,7 +10,7 @@ use Rattle.rules.specs.Bus.{Blocks, modified}
 use Rattle.rules.specs.Invariant.{Filled, Present, placed}
 use Rattle.rules.specs.Sound.{ProcOk, Clean}
 use Rattle.rules.proofs.Cells.{But, place_dec, but_entry}
-use Rattle.rules.proofs.Ops.{present_range, rplace_present, unique}
+use Rattle.rules.proofs.Ops.{present_range, rplace_present, unique, swap_or}
 use Rattle.rules.proofs.Whole.{Kept, Sub, Alike, Same, same_refl}
 
 module _ (p p' : Processor) (h k : ℕ) (y : REntry) (m : But (entry_at p) (entry_at p') h k y) where
@@ -56,12 +56,6 @@ module _ (T : ℕ → Option ℕ) (f : Blocks) (p : Processor) (O : ProcOk T f p
       let k = l.rplace.way in
       same_but p (free_filled p s w l) h k (unlinked (entry_at p h k) l) (but_present h k (unlinked (entry_at p h k) l) (rplace_present T f p O s w fl))
       (record { state = refl; block = refl; dirt = rw (O.sound.lines s w fl).up (swap_or l.dirty (entry_at p h k).rdirty) })
-    where
-      swap_or : (a b : Bool) → ((a || b) || false) ≡ (b || a)
-      swap_or true true = refl
-      swap_or true false = refl
-      swap_or false true = refl
-      swap_or false false = refl
 
   pub go_same : (s w : ℕ) → Same p (free_line p s w)
   go_same s w = go (line_at p s w).state refl

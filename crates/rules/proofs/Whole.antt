@@ -96,7 +96,7 @@ pub record Kept (e e' : REntry) : Type 0 where
 abbrev pub Sub : Processor → Processor → Type 0
 Sub p p' = (s w : ℕ) → Present (entry_at p' s w) → Kept (entry_at p s w) (entry_at p' s w)
 
-private_present : (e : REntry) → e.state ≡ Private → Present e
+pub private_present : (e : REntry) → e.state ≡ Private → Present e
 private_present e h = rw h
 
 -- what takes nothing in

@@ -13,25 +13,13 @@ use Rattle.rules.specs.Rule.{Rule}
 use Rattle.rules.specs.Bus.{Blocks}
 use Rattle.rules.specs.Cache.{entry_at, evict, free_child, free_line, free_line_by, line_at, r_way, v_way}
 use Rattle.rules.specs.Sound.{ProcOk}
+use Rattle.rules.proofs.Fetched.{free_child_counts, free_counts}
 use Rattle.rules.proofs.Ops.{free_line_lem}
 use Rattle.rules.proofs.Sizes.{r_set_in}
 use Rattle.caches.specs.Ranged.{ChildIn, Ranged}
 use Rattle.caches.proofs.InRange.{ok_ranged}
 use Rattle.caches.proofs.Snoops.{child_in}
 use Rattle.steps.specs.Steps.{Rooms, child_freed, line_freed, next_entry}
-
--- freeing counts nothing
-pub free_counts : (p : Processor) (s w : ℕ) → (free_line p s w).counts ≡ p.counts
-free_counts p s w = go (line_at p s w).state
-  where
-    go : (c : LineState) → (free_line_by c p s w (line_at p s w)).counts ≡ p.counts
-    go Empty = refl
-    go Valid = refl
-    go Swapped = refl
-
-pub child_counts : (p : Processor) (c : Child) → (free_child p c).counts ≡ p.counts
-child_counts p NoChild = refl
-child_counts p (At q d) = free_counts p q.set q.way
 
 -- p₁ is the processor past the V-way freed at l, p₂ that past the child of the entry at h, and p₃ that past the entry
 module _ (rv rr : Rule) (p p₁ p₂ p₃ : Processor) (vb b n k : ℕ) (l h : Place) (x e : REntry)
@@ -49,7 +37,7 @@ module _ (rv rr : Rule) (p p₁ p₂ p₃ : Processor) (vb b n k : ℕ) (l h : P
       let rg₁ : Ranged p₁ = ok_ranged T f p₁ ok₁ in
       let fx : x ≡ entry_at p₁ h.set h.way = ex lh lw in
       let f₂ : p₂ ≡ free_child p₁ x.child = e₂ rg₁ (subst (λ (z : REntry). ChildIn z.child) (sym fx) (child_in p₁ h.set h.way rg₁)) in
-      let cs : p₂.counts ≡ p.counts = ap (λ (z : Processor). z.counts) f₂ ∙ child_counts p₁ x.child ∙ ap (λ (z : Processor). z.counts) f₁ ∙ free_counts p s (v_way rv p s) in
+      let cs : p₂.counts ≡ p.counts = ap (λ (z : Processor). z.counts) f₂ ∙ free_child_counts p₁ x.child ∙ ap (λ (z : Processor). z.counts) f₁ ∙ free_counts p s (v_way rv p s) in
       let room : p₂.counts.replaced < 2 ^ 32 - 1 = subst (λ (z : Counts). z.replaced < 2 ^ 32 - 1) (sym cs) small in
       let kk : k ≡ next_entry rv rr p s (b % r_sets) = ek (r_set_in n) ∙ (λ j. r_way rr (f₁ j) (en j % r_sets)) in
       let ww : h.way ≡ next_entry rv rr p s (b % r_sets) = ew ∙ kk in
