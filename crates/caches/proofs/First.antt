@@ -1,11 +1,23 @@
 -- The first place of a list that passes a test, as the library counts it, is the first number that does.
-use Rattle.std.proofs.Common.{◌≡◌, ℕ, zero, suc, ◌<◌, ◌≤◌, Bool, true, false, List, length, get_or, Some, None, Option, refl, sym, subst, ⊎_elim, arith, lt-ltb, le-ltb}
+use Rattle.std.proofs.Common.{◌≡◌, ℕ, zero, suc, ◌+◌, ◌<◌, add-one, ◌≤◌, Bool, true, false, List, length, get_or, Some, None, Option, refl, sym, subst, ⊎_elim, arith, lt-ltb, le-ltb}
 use native.Mathlib.Decide.{dec_lt}
 use Rattle.std.specs.List.{position, position_or_len}
 use Rattle.std.proofs.lemmas.Bool.{cases_lt}
 use Rattle.std.proofs.lemmas.List.Sums.{fails_before_first, passes_at_first}
 use Rattle.rules.specs.Basic.{first_below}
 use Rattle.caches.specs.Found.{FoundBelow}
+
+-- found by counting up
+pub first_more : (n : ℕ) (f : ℕ → Bool) → first_below n f ≡ None → f n ≡ false → first_below (n + 1) f ≡ None
+first_more n f h e = rw (add-one, h, e)
+
+pub first_found : (n : ℕ) (f : ℕ → Bool) (w : ℕ) → w < n → first_below w f ≡ None → f w ≡ true → first_below n f ≡ Some w
+first_found zero f w lt h e = let z : ⊥ = omega arith in absurd z
+first_found (suc n) f w lt h e = go (dec_lt w n) (λ k. first_found n f w k h e)
+  where
+    go : Dec (w < n) → (w < n → first_below n f ≡ Some w) → first_below (suc n) f ≡ Some w
+    go (yes k) ih = rw (ih k)
+    go (no k) ih = let q : n ≡ w = omega arith in rw (q, h, e)
 
 none_below : (n : ℕ) (f : ℕ → Bool) → ((w : ℕ) → w < n → f w ≡ false) → first_below n f ≡ None
 none_below zero f h = refl

@@ -1,4 +1,5 @@
 pub mod First
+pub mod Search
 pub mod InRange
 pub mod Modulo
 pub mod Snoops

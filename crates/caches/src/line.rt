@@ -12,7 +12,7 @@ use crate::blank::no_line;
 use crate::cell::{entry_at, line_at, put_entry, put_line};
 use base::block::VirtualBlock;
 use base::size::BLOCK_WORDS;
-use tables::types::{Child, LineState, Place, Processor, REntry, VLine};
+use tables::types::{Child, LineState, Place, Processor, R_SETS, R_WAYS, REntry, VLine};
 
 // An entry without its child, whose words it takes where they are newer.
 fn unlink(entry: REntry, line: &VLine) -> REntry
@@ -73,12 +73,12 @@ pub(crate) fn is_vdirty(child: Child) -> bool
     matches!(child, Child::At { vdirty: true, .. })
 }
 
-// An entry gets another child.
+// An entry gets another child, which alone is written.
+#[tactic(auto, using(crate::proofs::Modulo::modulo), unfolding(rules::specs::Sizes::r_sets, rules::specs::Sizes::r_ways))]
 fn set_child(p: &mut Processor, at: Place, child: Child)
     ensures { at.set < r_sets → at.way < r_ways → p.new ≡ put_entry p.old at.set at.way (with_child (entry_at p.old at.set at.way) child) }
 {
-    let entry = entry_at(p, at);
-    put_entry(p, at, REntry { child, ..entry });
+    p.r[at.set % R_SETS][at.way % R_WAYS].child = child;
 }
 
 // A line goes to another place under another tag; its entry is at `rplace`.

@@ -38,9 +38,12 @@ impl<'a> WordMemory<'a> {
         ensures { result ≡ block_at self.now.words.now number }
     {
         let at = BLOCK_WORDS * usize::from(number);
-        let mut words = [0; BLOCK_WORDS];
-        words.copy_from_slice(&self.words[at..at + BLOCK_WORDS]);
-        words
+        [
+            self.words[at],
+            self.words[at + 1],
+            self.words[at + 2],
+            self.words[at + 3],
+        ]
     }
 
     // Replaces the four words from a place on.

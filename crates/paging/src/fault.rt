@@ -48,15 +48,19 @@ impl fmt::Display for MapFault {
     ghost output = { λ x. Some (fault_text x) };
 
     fn fmt<W: fmt::Write>(&self, f: &mut fmt::Formatter<W>) -> fmt::Result {
-        let reason = match self {
-            MapFault::NoFrame { page: _ } => "the page has no frame",
-            MapFault::OutOfRange { page: _ } => "process, page or frame is out of range",
-        };
-        write!(
-            f,
-            "page {}, number {}: {reason}",
-            self.place(),
-            self.number()
-        )
+        match self {
+            MapFault::NoFrame { page: _ } => write!(
+                f,
+                "page {}, number {}: the page has no frame",
+                self.place(),
+                self.number()
+            ),
+            MapFault::OutOfRange { page: _ } => write!(
+                f,
+                "page {}, number {}: process, page or frame is out of range",
+                self.place(),
+                self.number()
+            ),
+        }
     }
 }

@@ -33,11 +33,13 @@ fn renew(word: u32, way: u8) -> u32
     ensures { result ≡ renewed word way }
 {
     let newest = way % WAYS as u8;
-    let rest = oldest_first(word)
-        .iter()
-        .copied()
-        .filter(|number| *number != newest)
-        .fold(0, shift);
+    let rest = oldest_first(word).iter().copied().fold(0, |rest, number| {
+        if number == newest {
+            rest
+        } else {
+            shift(rest, number)
+        }
+    });
     shift(rest, newest)
 }
 
@@ -73,8 +75,8 @@ impl Rule for LeastRecentlyUsed {
     }
 
     fn choose(&self, word: u32, asked: WaySet) -> u8 {
-        let numbers = oldest_first(word);
-        let order = numbers.iter().copied().chain(0..WAYS as u8);
-        first_asked(&asked, order)
+        let [a, b, c, d] = oldest_first(word);
+        let order = [a, b, c, d, 0, 1, 2, 3];
+        first_asked(&asked, order.iter().copied())
     }
 }

@@ -1,23 +1,27 @@
-use Rattle.std.proofs.Common.{◌≡◌, ◌%◌, List, [], get_or, length, rules, tests, ap, ◌∙◌}
-use Rattle.std.specs.List.{position}
-use Rattle.std.proofs.lemmas.Iterator.{YieldsList-from_slice}
-use Rattle.std.proofs.lemmas.Iterator.Search.{position_from_yields_List}
-use Rattle.rules.specs.Basic.{first_below}
+use Rattle.std.proofs.Common.{◌%◌, sym, arith}
 use Rattle.rules.specs.Sizes.{r_sets, r_ways}
-use Rattle.rules.specs.Cache.{holds, entry_at, past_entry}
-use Rattle.tables.specs.declared.types.REntry.{REntry}
-use Rattle.caches.proofs.First.{first_in}
+use Rattle.rules.specs.Cache.{holds, entry_at}
+use Rattle.caches.proofs.First.{first_more}
+use Rattle.caches.proofs.Search.{entry_found, entry_missed}
 use Rattle.caches.proofs.find.find_entry.Goals as goal
+
+pub loop-way-preserved : goal.loop-way-preserved
+unfolding r_sets
+loop-way-preserved c =
+    first_more c.loop-way.way (λ k. holds c.args.block.0 (entry_at c.args.p.now (c.from-set.result % r_sets) k)) c.loop-way.invariant (sym c.if-is_holder.ensures)
+
+pub returns-then-is_holder : goal.returns-then-is_holder
+unfolding r_sets r_ways
+returns-then-is_holder c =
+    record {
+      way = entry_found c.args.p.now c.args.block.0 c.from-set.result c.loop-way.way c.from-set.ensures c.loop-way-test.true c.loop-way.invariant c.if-is_holder.ensures;
+      within = c.loop-way-test.true;
+    }
 
 pub returns : goal.returns
 unfolding r_sets r_ways
 returns c =
-    let row : List REntry = get_or c.args.p.now.r (c.from.result % r_sets) [] in
-    let n : length row ≡ r_ways = search rules in
-    let h : c.position.result ≡ position (holds c.args.block.0) row =
-    position_from_yields_List (holds c.args.block.0) _ _ c.position.result c.position.ensures.ran (YieldsList-from_slice row cc) (λ x b q k. search (rules, tests)) in
-    let first = first_in r_ways (holds c.args.block.0) past_entry row n c.position.result h in
     record {
-      way = first.way ∙ ap (λ m. first_below r_ways (λ w. holds c.args.block.0 (entry_at c.args.p.now (m % r_sets) w))) c.from.ensures;
-      within = first.within;
+      way = entry_missed c.args.p.now c.args.block.0 c.from-set.result c.loop-way.way c.from-set.ensures (omega arith) c.loop-way.invariant;
+      within = tt;
     }
